@@ -1,0 +1,250 @@
+-- The calls of document 01: what refuses them, what they answer and leave, and a list of them run from the empty store.
+use Prim.Native.Nat.{ℕ, zero, suc}
+use mathlib.Core.Bool.{Bool, true, false, not, _&&_, _||_}
+use mathlib.Core.List.{List, [], _∷_, _++_}
+use lib.IntN.{ℤ, pos}
+use lib.Dec.{ltb, eqb}
+use lib.ListN.{length, drop}
+use Rattle.rules.specs.Types.{Account, Directory, Half, Step, Answer, Accepted, Booked, Chained, Refused, SecurityTotal, CashTotal}
+use Rattle.rules.specs.Tests.{isRow, Condition, _when_, lowest}
+use Rattle.rules.specs.Directory.{Rows, rowsOf, Row, rowConditions, addRow, isKind, inBooks, emptyDirectory, sound}
+use Rattle.rules.specs.Chain.{Chain, chain, stepsOf, chainConditions, stepLimit}
+use Rattle.rules.specs.Booking
+use Rattle.rules.specs.Booking.{Way, positionCount, cashCount, booked, paid, addCents, payment, moveChain, moveConditions, payConditions}
+
+-- The desk's store: directory, positions and cash.
+pub record Store : Type 0 where
+  pub directory : Directory
+  pub positions : List ℤ
+  pub cash : List ℤ
+
+-- A call with its operands: an entry; a bring-in or take-out of an account, a security and a quantity; a pay-in or pay-out of an
+-- account and an amount; a settlement or derivation of two halves, delivering first, with the step list that it is lent.
+pub data Call : Type 0 where
+  enter : Row → Call
+  move : Way → ℕ → ℕ → ℕ → Call
+  pay : Way → ℕ → ℕ → Call
+  settle : Half → Half → List Step → Call
+  derive : Half → Half → List Step → Call
+
+-- ---- what an answer says
+
+-- this paper's number for each answer: the refusal, and 0 for an accepted call
+abbrev pub numberOf : Answer → ℕ
+numberOf Accepted = 0
+numberOf (Booked k) = 0
+numberOf (Chained k) = 0
+numberOf (Refused n) = n
+
+-- K, where the answer is `booked` or `chain`
+abbrev pub countOf : Answer → ℕ
+countOf Accepted = 0
+countOf (Booked k) = k
+countOf (Chained k) = k
+countOf (Refused n) = 0
+
+-- "Accepted is a call answered without a refusal number."
+abbrev pub isAccepted : Answer → Bool
+isAccepted Accepted = true
+isAccepted (Booked k) = true
+isAccepted (Chained k) = true
+isAccepted (Refused n) = false
+
+-- ---- two halves
+
+-- 6 of a half: its account, counterpart CSD or security "names no row"
+abbrev pub halfUnknown : Rows → Half → Bool
+halfUnknown r h = not (isRow (r .accounts) (h .account)) || (not (isRow (r .csds) (h .counterpart)) || not (isRow (r .securities) (h .security)))
+
+-- 7 of a half
+abbrev pub halfOutOfRange : Half → Bool
+halfOutOfRange h = Booking.outOfRange (h .quantity) || Booking.amountOutOfRange (h .amount)
+
+-- 12: "security, quantity, amount differ, or a counterpart isn't the other's CSD"
+abbrev pub halvesDiffer : List Account → Half → Half → Bool
+halvesDiffer acc h g =
+    not (eqb (h .security) (g .security))
+    || (not (eqb (h .quantity) (g .quantity))
+    || (not (eqb (h .amount) (g .amount))
+    || (not (inBooks acc (g .account) (h .counterpart)) || not (inBooks acc (h .account) (g .counterpart)))))
+
+-- 6 to 13, each over both halves: h delivers, g receives
+abbrev pub halvesConditions : Rows → Half → Half → List Condition
+halvesConditions r h g =
+    6 when (halfUnknown r h || halfUnknown r g)
+    ∷ 7 when (halfOutOfRange h || halfOutOfRange g)
+    ∷ 10 when (not (isKind (r .accounts) (h .account) 0) || not (isKind (r .accounts) (g .account) 0))
+    ∷ 12 when halvesDiffer (r .accounts) h g
+    ∷ 13 when eqb (h .account) (g .account)
+    ∷ []
+
+-- the chain of two halves
+abbrev pub halvesChain : Rows → Half → Half → Chain
+halvesChain r h g = chain r (h .security) (h .account) (g .account)
+
+-- 6 to 18
+abbrev pub deriveConditions : Rows → Half → Half → List Condition
+deriveConditions r h g = halvesConditions r h g ++ chainConditions (halvesChain r h g)
+
+-- 20 over all steps, 21, then 22 over all changed numbers, "judged on the store before the call"
+abbrev pub bookConditions : Rows → List ℤ → List ℤ → Half → Half → List Step → List Condition
+bookConditions r p c h g steps =
+    20 when Booking.unitsShort (r .accounts) p (h .security) (h .quantity) steps
+    ∷ 21 when Booking.cashShort c (g .account) (h .amount)
+    ∷ 22 when (Booking.unitsBeyond p (h .security) (h .quantity) steps || Booking.paymentBeyond c (g .account) (h .account) (h .amount))
+    ∷ []
+
+-- 6 to 22
+abbrev pub settleConditions : Rows → List ℤ → List ℤ → Half → Half → List Condition
+settleConditions r p c h g = deriveConditions r h g ++ bookConditions r p c h g (stepsOf (halvesChain r h g))
+
+-- ---- the conditions of a call
+
+-- 3: "positions not 4,096, cash not 256, steps below 16", for the lists that a call is lent
+unfoldable pub misfit : Call → Store → Bool
+misfit (enter x) st = false
+misfit (move w a s q) st = not (eqb (length (st .positions)) positionCount)
+misfit (pay w a m) st = not (eqb (length (st .cash)) cashCount)
+misfit (settle h g lent) st =
+    not (eqb (length (st .positions)) positionCount) || (not (eqb (length (st .cash)) cashCount) || ltb (length lent) stepLimit)
+misfit (derive h g lent) st = ltb (length lent) stepLimit
+
+-- 5 to 22
+abbrev pub coreConditions : Call → Store → List Condition
+coreConditions (enter x) st = rowConditions (rowsOf (st .directory)) x
+coreConditions (move w a s q) st = moveConditions (rowsOf (st .directory)) (st .positions) w a s q
+coreConditions (pay w a m) st = payConditions (rowsOf (st .directory)) (st .cash) w a m
+coreConditions (settle h g lent) st = settleConditions (rowsOf (st .directory)) (st .positions) (st .cash) h g
+coreConditions (derive h g lent) st = deriveConditions (rowsOf (st .directory)) h g
+
+-- 3 to 22: 4 is "not sound"
+abbrev pub deskConditions : Call → Store → List Condition
+deskConditions c st = 3 when misfit c st ∷ 4 when not (sound (st .directory)) ∷ coreConditions c st
+
+-- ---- what a call answers and leaves
+
+-- the answer, the store and the lent step list after a call
+pub record Outcome : Type 0 where
+  pub answer : Answer
+  pub store : Store
+  pub steps : List Step
+
+-- the step list that a call is lent
+abbrev pub lentSteps : Call → List Step
+lentSteps (enter x) = []
+lentSteps (move w a s q) = []
+lentSteps (pay w a m) = []
+lentSteps (settle h g lent) = lent
+lentSteps (derive h g lent) = lent
+
+-- the chain that a call books or derives
+abbrev pub chainFor : Call → Store → List Step
+chainFor (enter x) st = []
+chainFor (move w a s q) st = stepsOf (moveChain (rowsOf (st .directory)) w a s)
+chainFor (pay w a m) st = []
+chainFor (settle h g lent) st = stepsOf (halvesChain (rowsOf (st .directory)) h g)
+chainFor (derive h g lent) st = stepsOf (halvesChain (rowsOf (st .directory)) h g)
+
+-- what an accepted call answers: K is the chain's length
+abbrev pub success : Call → Store → Answer
+success (enter x) st = Accepted
+success (move w a s q) st = Accepted
+success (pay w a m) st = Accepted
+success (settle h g lent) st = Booked (length (chainFor (settle h g lent) st))
+success (derive h g lent) st = Chained (length (chainFor (derive h g lent) st))
+
+-- the store that an accepted call leaves
+abbrev pub changed : Call → Store → Store
+changed (enter x) st = record { directory = addRow x (st .directory); positions = st .positions; cash = st .cash }
+changed (move w a s q) st =
+    record { directory = st .directory; positions = booked (chainFor (move w a s q) st) s q (st .positions); cash = st .cash }
+changed (pay w a m) st = record { directory = st .directory; positions = st .positions; cash = addCents (st .cash) a (payment w m) }
+changed (settle h g lent) st =
+    record {
+      directory = st .directory;
+      positions = booked (chainFor (settle h g lent) st) (h .security) (h .quantity) (st .positions);
+      cash = paid (st .cash) (g .account) (h .account) (h .amount);
+    }
+changed (derive h g lent) st = st
+
+-- "steps go into a lent list of at least 16 steps, the rest untouched"
+abbrev pub written : List Step → List Step → List Step
+written steps lent = steps ++ drop (length steps) lent
+
+-- the lent step list after an accepted call
+abbrev pub writtenFor : Call → Store → List Step
+writtenFor (enter x) st = []
+writtenFor (move w a s q) st = []
+writtenFor (pay w a m) st = []
+writtenFor (settle h g lent) st = written (chainFor (settle h g lent) st) lent
+writtenFor (derive h g lent) st = written (chainFor (derive h g lent) st) lent
+
+-- by the refusal's number: "nothing lent or handed in changes"
+abbrev pub outcome : ℕ → Call → Store → Outcome
+outcome zero c st = record { answer = success c st; store = changed c st; steps = writtenFor c st }
+outcome (suc n) c st = record { answer = Refused (suc n); store = st; steps = lentSteps c }
+
+-- the call without the tests 3 and 4, for whoever knows that lists fit and the directory is sound
+unfoldable pub core : Call → Store → Outcome
+core c st = outcome (lowest (coreConditions c st)) c st
+
+-- the call as the desk's software makes it, on any store
+unfoldable pub desk : Call → Store → Outcome
+desk c st = outcome (lowest (deskConditions c st)) c st
+
+-- ---- the totals, which change nothing
+
+-- the total of a security as the desk's software asks for it: 3, 4, then 6 and 22
+unfoldable pub deskSecurityTotal : Directory → List ℤ → ℕ → SecurityTotal
+deskSecurityTotal d p s =
+    Booking.securityTotalBy
+    (lowest (3 when not (eqb (length p) positionCount) ∷ 4 when not (sound d) ∷ Booking.securityTotalConditions (rowsOf d) p s))
+    (Booking.participantSum (rowsOf d .accounts) p s)
+
+-- the total of cash: 3, then 22
+unfoldable pub deskCashTotal : List ℤ → CashTotal
+deskCashTotal c =
+    Booking.cashTotalBy (lowest (3 when not (eqb (length c) cashCount) ∷ Booking.cashTotalConditions c)) (Booking.cashSum c)
+
+-- ---- a list of calls
+
+-- n zeros
+unfoldable pub zeros : ℕ → List ℤ
+zeros zero = []
+zeros (suc n) = pos 0 ∷ zeros n
+
+-- "An empty store has no row, and 0 in every position and balance."
+unfoldable pub emptyStore : Store
+emptyStore = record { directory = emptyDirectory; positions = zeros positionCount; cash = zeros cashCount }
+
+-- A call of the list, its answer, and "the positions and cash handed to it and those it left".
+pub record Item : Type 0 where
+  pub call : Call
+  pub answer : Answer
+  pub positions : List ℤ
+  pub cash : List ℤ
+  pub positionsLeft : List ℤ
+  pub cashLeft : List ℤ
+
+-- an item from the call, its answer, and the stores before and after it
+abbrev pub item : Call → Answer → Store → Store → Item
+item c x st left =
+    record { call = c; answer = x; positions = st .positions; cash = st .cash; positionsLeft = left .positions; cashLeft = left .cash }
+
+-- what was called so far, newest first, and the store that it left
+pub record Run : Type 0 where
+  pub items : List Item
+  pub store : Store
+
+-- "Each call is handed the directory that the last one returned and the positions and cash that it left"
+abbrev pub next : Call → Run → Run
+next c r = record { items = item c (desk c (r .store) .answer) (r .store) (desk c (r .store) .store) ∷ r .items; store = desk c (r .store) .store }
+
+-- the calls one after another
+abbrev pub runFrom : List Call → Run → Run
+runFrom [] r = r
+runFrom (c ∷ cs) r = runFrom cs (next c r)
+
+-- "The list starts from the empty store"
+abbrev pub run : List Call → Run
+run cs = runFrom cs (record { items = []; store = emptyStore })

@@ -1,0 +1,217 @@
+-- 'Chains by example' of document 01 as one table, and its sample run: what the definitions are to give.
+use Prim.Native.Nat.{ℕ, zero, suc, _+_, _*_}
+use mathlib.Core.Bool.{Bool, true, false, cond}
+use mathlib.Core.List.{List, [], _∷_, _++_, map}
+use lib.IntN.{ℤ, pos, negsuc}
+use lib.Dec.{leb}
+use lib.ListN.{length}
+use Rattle.rules.specs.Types.{Csd, Account, Pair, Link, Step, Half, Answer, Accepted, Booked}
+use Rattle.rules.specs.Directory.{Rows, csdRow, securityRow, accountRow, pairRow, linkRow, noCsd, noAccount}
+use Rattle.rules.specs.Chain.{Chain, chained, unchained, chain, generated}
+use Rattle.rules.specs.Booking.{incoming, heldIn}
+use Rattle.rules.specs.Calls.{Call, enter, move, settle, Item}
+use Rattle.rules.specs.Stream.{bytes, programSteps}
+
+-- ---- chains: "I, J issuers; X, Y external; → default"
+
+-- CSDs A, B, C, D, I, J in T2S, and X, Y external
+abbrev A : ℕ
+A = 0
+
+abbrev B : ℕ
+B = 1
+
+abbrev C : ℕ
+C = 2
+
+abbrev D : ℕ
+D = 3
+
+abbrev I : ℕ
+I = 4
+
+abbrev J : ℕ
+J = 5
+
+abbrev X : ℕ
+X = 6
+
+abbrev Y : ℕ
+Y = 7
+
+-- the CSD is external
+abbrev isOutside : ℕ → Bool
+isOutside c = leb X c
+
+-- the links of an example: an issuer, a default link, an alternative
+pub data Drawn : Type 0 where
+  issuer : ℕ → Drawn
+  _⟶_ : ℕ → ℕ → Drawn
+  _⇢_ : ℕ → ℕ → Drawn
+
+infix 70 _⟶_
+infix 70 _⇢_
+-- accounts 3c and 3c + 1 are participants of the CSD c, 3c + 2 is its issuance account; those of the pairs follow from 18 on
+abbrev ownAccounts : ℕ → List Account
+ownAccounts c = record { csd = c; kind = 0 } ∷ record { csd = c; kind = 0 } ∷ record { csd = c; kind = 4 } ∷ []
+
+-- the accounts of a pair: mirror and omnibus, or the inter-CSD account
+abbrev pairAccounts : ℕ → ℕ → List Account
+pairAccounts c n = cond (isOutside n) (record { csd = c; kind = 3 } ∷ []) (record { csd = c; kind = 2 } ∷ record { csd = n; kind = 1 } ∷ [])
+
+-- those of all links drawn
+abbrev accountsFor : List Drawn → List Account
+accountsFor [] = []
+accountsFor (issuer c ∷ ds) = accountsFor ds
+accountsFor ((c ⟶ n) ∷ ds) = pairAccounts c n ++ accountsFor ds
+accountsFor ((c ⇢ n) ∷ ds) = pairAccounts c n ++ accountsFor ds
+
+-- the pair whose accounts start at a
+abbrev pairFor : ℕ → ℕ → ℕ → Pair
+pairFor a c n = record { investor = c; technical = n; mirror = a; omnibus = cond (isOutside n) noAccount (a + 1) }
+
+-- the pairs of all links drawn
+abbrev pairsFor : ℕ → List Drawn → List Pair
+pairsFor a [] = []
+pairsFor a (issuer c ∷ ds) = pairsFor a ds
+pairsFor a ((c ⟶ n) ∷ ds) = pairFor a c n ∷ pairsFor (a + length (pairAccounts c n)) ds
+pairsFor a ((c ⇢ n) ∷ ds) = pairFor a c n ∷ pairsFor (a + length (pairAccounts c n)) ds
+
+-- a link drawn, for security 0
+abbrev linkFor : Drawn → Link
+linkFor (issuer c) = record { security = 0; kind = 0; csd = c; technical = noCsd; flag = 1; account = c * 3 + 2 }
+linkFor (c ⟶ n) = record { security = 0; kind = 1; csd = c; technical = n; flag = 1; account = noAccount }
+linkFor (c ⇢ n) = record { security = 0; kind = 1; csd = c; technical = n; flag = 0; account = noAccount }
+
+-- a CSD of a type and BIC
+abbrev csdAs : ℕ → List ℕ → Csd
+csdAs t name = record { external = t; bic = name }
+
+-- the rows of an example's directory
+abbrev pub drawn : List Drawn → Rows
+drawn ds =
+    record {
+      csds = csdAs 0 (bytes "AAAAXX00XXX") ∷ csdAs 0 (bytes "BBBBXX00XXX") ∷ csdAs 0 (bytes "CCCCXX00XXX") ∷ csdAs 0 (bytes "DDDDXX00XXX")
+          ∷ csdAs 0 (bytes "IIIIXX00XXX") ∷ csdAs 0 (bytes "JJJJXX00XXX") ∷ csdAs 1 (bytes "XXXXXX00XXX") ∷ csdAs 1 (bytes "YYYYXX00XXX") ∷ [];
+      securities = record { isin = bytes "XS0000000009" } ∷ [];
+      accounts = ownAccounts A ++ ownAccounts B ++ ownAccounts C ++ ownAccounts D ++ ownAccounts I ++ ownAccounts J ++ accountsFor ds;
+      pairs = pairsFor 18 ds;
+      links = map linkFor ds;
+    }
+
+-- the CSDs of a chain with the number of instructions that it generates, or the refusal
+pub data Passed : Type 0 where
+  through : List ℕ → ℕ → Passed
+  refused : ℕ → Passed
+
+-- links, two CSDs, and what the chain between them passes
+pub record Example : Type 0 where
+  pub links : List Drawn
+  pub from : ℕ
+  pub to : ℕ
+  pub gives : Passed
+
+-- an example, written short
+abbrev example : List Drawn → ℕ → ℕ → Passed → Example
+example ds c n g = record { links = ds; from = c; to = n; gives = g }
+
+-- the table, in document 01's order
+unfoldable pub examples : List Example
+examples =
+    example [] A A (through (A ∷ []) 0)
+    ∷ example (issuer I ∷ A ⟶ C ∷ C ⟶ I ∷ B ⟶ D ∷ D ⟶ I ∷ []) A B (through (A ∷ C ∷ I ∷ D ∷ B ∷ []) 8)
+    ∷ example (issuer I ∷ A ⟶ I ∷ B ⟶ I ∷ []) A B (through (A ∷ I ∷ B ∷ []) 4)
+    ∷ example (issuer I ∷ A ⟶ B ∷ B ⟶ I ∷ []) A B (through (A ∷ B ∷ []) 2)
+    ∷ example (A ⟶ C ∷ B ⟶ C ∷ C ⟶ X ∷ []) A B (through (A ∷ C ∷ B ∷ []) 4)
+    ∷ example (issuer I ∷ issuer J ∷ A ⟶ I ∷ B ⟶ J ∷ []) A B (through (A ∷ I ∷ J ∷ B ∷ []) 6)
+    ∷ example (issuer I ∷ issuer J ∷ A ⟶ I ∷ B ⟶ J ∷ A ⇢ B ∷ []) A B (through (A ∷ B ∷ []) 2)
+    ∷ example (A ⟶ C ∷ C ⟶ X ∷ B ⟶ D ∷ D ⟶ X ∷ C ⇢ B ∷ []) A B (through (A ∷ C ∷ B ∷ []) 4)
+    ∷ example (A ⟶ X ∷ B ⟶ Y ∷ []) A B (through (A ∷ B ∷ []) 2)
+    ∷ example (issuer I ∷ A ⟶ I ∷ B ⟶ X ∷ []) A B (refused 16)
+    ∷ example (issuer I ∷ A ⟶ X ∷ B ⟶ I ∷ []) A B (refused 17)
+    ∷ example (issuer I ∷ A ⟶ C ∷ C ⟶ I ∷ B ⟶ D ∷ D ⟶ I ∷ A ⇢ B ∷ []) A B (through (A ∷ C ∷ I ∷ D ∷ B ∷ []) 8)
+    ∷ example (issuer I ∷ B ⟶ I ∷ []) A B (refused 14)
+    ∷ []
+
+-- the CSDs of the steps
+abbrev csdsOf : List Step → List ℕ
+csdsOf xs = map (λ (x : Step). x .csd) xs
+
+-- what a chain passes
+abbrev passed : Chain → Passed
+passed (chained xs) = through (csdsOf xs) (generated (length xs))
+passed (unchained n) = refused n
+
+-- a delivery between participants of the two CSDs
+abbrev pub derived : Example → Passed
+derived e = passed (chain (drawn (e .links)) 0 (e .from * 3) (e .to * 3 + 1))
+
+-- ---- the sample run
+
+-- a half of the sample's settlement
+abbrev half : ℕ → ℕ → Half
+half a c = record { account = a; counterpart = c; security = 0; quantity = 40; amount = 0 }
+
+-- "CSDs 0, 1 in T2S ..; XS0000000009; accounts 0 participant and 1 mirror of CSD 0, 2 omnibus, 3 issuance, 4 participant of CSD 1; pair
+-- 0, 1, 1, 2; issuer link CSD 1; default link 0 to 1; 100 brought in on account 4; 40 settled from 4 to 0 for amount 0"
+unfoldable pub sampleCalls : List Call
+sampleCalls =
+    enter (csdRow (csdAs 0 (bytes "AAAAXX00XXX")))
+    ∷ enter (csdRow (csdAs 0 (bytes "AAAAXX01XXX")))
+    ∷ enter (securityRow (record { isin = bytes "XS0000000009" }))
+    ∷ enter (accountRow (record { csd = 0; kind = 0 }))
+    ∷ enter (accountRow (record { csd = 0; kind = 2 }))
+    ∷ enter (accountRow (record { csd = 1; kind = 1 }))
+    ∷ enter (accountRow (record { csd = 1; kind = 4 }))
+    ∷ enter (accountRow (record { csd = 1; kind = 0 }))
+    ∷ enter (pairRow (record { investor = 0; technical = 1; mirror = 1; omnibus = 2 }))
+    ∷ enter (linkRow (record { security = 0; kind = 0; csd = 1; technical = noCsd; flag = 1; account = 3 }))
+    ∷ enter (linkRow (record { security = 0; kind = 1; csd = 0; technical = 1; flag = 1; account = noAccount }))
+    ∷ move incoming 4 0 100
+    ∷ settle (half 4 0) (half 0 1) programSteps
+    ∷ []
+
+-- the answers, newest first: `booked 2` and twelve times `ok`
+unfoldable pub sampleAnswers : List Answer
+sampleAnswers =
+    Booked 2 ∷ Accepted ∷ Accepted ∷ Accepted ∷ Accepted ∷ Accepted ∷ Accepted ∷ Accepted ∷ Accepted ∷ Accepted ∷ Accepted ∷ Accepted ∷ Accepted ∷ []
+
+-- the positions that the accounts 0 to 4 are left with
+unfoldable pub samplePositions : List ℤ
+samplePositions = pos 40 ∷ negsuc 39 ∷ pos 40 ∷ negsuc 99 ∷ pos 60 ∷ []
+
+-- the answers of a run
+abbrev pub answersOf : List Item → List Answer
+answersOf items = map (λ (i : Item). i .answer) items
+
+-- the positions of the first five accounts
+abbrev pub firstPositions : List ℤ → List ℤ
+firstPositions p = heldIn p 0 0 ∷ heldIn p 0 1 ∷ heldIn p 0 2 ∷ heldIn p 0 3 ∷ heldIn p 0 4 ∷ []
+
+-- a number below 256 in 8 bytes
+abbrev quantity : ℕ → List ℕ
+quantity q = 0 ∷ 0 ∷ 0 ∷ 0 ∷ 0 ∷ 0 ∷ 0 ∷ q ∷ []
+
+-- the sample as the bytes that `realign` reads
+unfoldable pub sampleInput : List ℕ
+sampleInput =
+    (1 ∷ 0 ∷ bytes "AAAAXX00XXX")
+    ++ (1 ∷ 0 ∷ bytes "AAAAXX01XXX")
+    ++ (2 ∷ bytes "XS0000000009")
+    ++ (3 ∷ 0 ∷ 0 ∷ [])
+    ++ (3 ∷ 0 ∷ 2 ∷ [])
+    ++ (3 ∷ 1 ∷ 1 ∷ [])
+    ++ (3 ∷ 1 ∷ 4 ∷ [])
+    ++ (3 ∷ 1 ∷ 0 ∷ [])
+    ++ (4 ∷ 0 ∷ 1 ∷ 0 ∷ 1 ∷ 0 ∷ 2 ∷ [])
+    ++ (5 ∷ 0 ∷ 0 ∷ 1 ∷ 0xff ∷ 1 ∷ 0 ∷ 3 ∷ [])
+    ++ (5 ∷ 0 ∷ 1 ∷ 0 ∷ 1 ∷ 1 ∷ 0xff ∷ 0xff ∷ [])
+    ++ ((6 ∷ 0 ∷ 4 ∷ 0 ∷ []) ++ quantity 100)
+    ++ ((10 ∷ 0 ∷ 4 ∷ 0 ∷ 0 ∷ []) ++ quantity 40 ++ quantity 0)
+    ++ ((0 ∷ 0 ∷ 1 ∷ 0 ∷ []) ++ quantity 40 ++ quantity 0)
+
+-- "Output: `1 ok` to `12 ok`, a line each, then" the rest
+unfoldable pub sampleOutput : List ℕ
+sampleOutput =
+    bytes "1 ok\n2 ok\n3 ok\n4 ok\n5 ok\n6 ok\n7 ok\n8 ok\n9 ok\n10 ok\n11 ok\n12 ok\n"
+    ++ bytes "13 booked 2\n- 1 4 2\n- 0 1 0\ntotal XS0000000009 100\ncash 0\n"

@@ -1,0 +1,12 @@
+pub mod Types
+pub mod Tests
+pub mod Identifiers
+pub mod Directory
+pub mod Walks
+pub mod Chain
+pub mod Booking
+pub mod Calls
+pub mod Stream
+pub mod Relations
+pub mod Demands
+pub mod Examples

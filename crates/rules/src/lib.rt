@@ -1,0 +1,177 @@
+// The types that every crate shares. Their meaning is document 01's, written in specs/.
+
+// Rows that each table holds at most.
+pub const CSDS: usize = 32;
+
+pub const SECURITIES: usize = 16;
+
+pub const ACCOUNTS: usize = 256;
+
+pub const PAIRS: usize = 64;
+
+pub const LINKS: usize = 128;
+
+// Steps of a chain at most.
+pub const STEPS: usize = 16;
+
+// A central securities depository: 0 in T2S, 1 external, and its BIC.
+pub struct Csd {
+    pub external: u8,
+    pub bic: [u8; 11],
+}
+
+pub struct Security {
+    pub isin: [u8; 12],
+}
+
+// Kind 0 participant, 1 omnibus, 2 mirror, 3 inter-CSD, 4 issuance.
+pub struct Account {
+    pub csd: u8,
+    pub kind: u8,
+}
+
+// An investor CSD and its technical issuer with an account of each: a mirror and an omnibus account,
+// or, where the technical issuer is external, an inter-CSD account and hex FFFF.
+pub struct Pair {
+    pub investor: u8,
+    pub technical: u8,
+    pub mirror: u16,
+    pub omnibus: u16,
+}
+
+// Kind 0 issuer, 1 investor; flag 1 default, 0 alternative.
+pub struct Link {
+    pub security: u8,
+    pub kind: u8,
+    pub csd: u8,
+    pub technical: u8,
+    pub flag: u8,
+    pub account: u16,
+}
+
+// The tables: the first `count` rows of each are in use.
+pub struct CsdTable {
+    pub count: usize,
+    pub rows: [Csd; CSDS],
+}
+
+pub struct SecurityTable {
+    pub count: usize,
+    pub rows: [Security; SECURITIES],
+}
+
+pub struct AccountTable {
+    pub count: usize,
+    pub rows: [Account; ACCOUNTS],
+}
+
+pub struct PairTable {
+    pub count: usize,
+    pub rows: [Pair; PAIRS],
+}
+
+pub struct LinkTable {
+    pub count: usize,
+    pub rows: [Link; LINKS],
+}
+
+pub struct Directory {
+    pub csds: CsdTable,
+    pub securities: SecurityTable,
+    pub accounts: AccountTable,
+    pub pairs: PairTable,
+    pub links: LinkTable,
+}
+
+// One half of an instruction: its account, the counterpart's CSD, and what is delivered for which amount.
+pub struct Half {
+    pub account: u16,
+    pub counterpart: u8,
+    pub security: u8,
+    pub quantity: u64,
+    pub amount: u64,
+}
+
+// One step of a chain: the CSD, the account debited and the account credited in its books.
+pub struct Step {
+    pub csd: u8,
+    pub debited: u16,
+    pub credited: u16,
+}
+
+// A number of units of a security, and a number of cents of cash. They never add up together.
+pub struct Units(pub i64);
+
+pub struct Cents(pub i64);
+
+// The four ways in which a walk ends, with the CSD where it ended.
+pub enum WalkEnd {
+    Inside(u8),
+    Outside(u8),
+    NoLink,
+    TooLong,
+}
+
+// What a walk does at a CSD: it ends, or goes on to the next.
+pub enum Hop {
+    Ends(WalkEnd),
+    On(u8),
+}
+
+// How the two sides of a chain join: at one CSD, at an issuer each, or at an external CSD each.
+pub enum Join {
+    Meeting,
+    Issuers,
+    Externals,
+}
+
+// The two ends of the default walks judged together: a chain of two issuers or of two external ends, or the refusal.
+pub enum Verdict {
+    TwoIssuers,
+    TwoExternals,
+    Apart(u8),
+}
+
+// What a call answers. Booked and Chained carry the number of steps, Refused the number of document 01.
+pub enum Answer {
+    Accepted,
+    Booked(usize),
+    Chained(usize),
+    Refused(u8),
+}
+
+// A sum of positions, or the refusal.
+pub enum SecurityTotal {
+    SumUnits(Units),
+    NoUnits(u8),
+}
+
+// A sum of cash, or the refusal.
+pub enum CashTotal {
+    SumCents(Cents),
+    NoCents(u8),
+}
+
+// What an entry answers, and the directory after it.
+pub struct Entered {
+    pub answer: Answer,
+    pub directory: Directory,
+}
+
+// Steps by value: the first `count` rows are in use.
+pub struct Steps {
+    pub count: usize,
+    pub rows: [Step; STEPS],
+}
+
+// The steps of a chain, or the number that refuses it: 0 where there is a chain.
+pub struct ChainFound {
+    pub refusal: u8,
+    pub steps: Steps,
+}
+
+// What a derivation or settlement answers, with its steps by value.
+pub struct Reply {
+    pub answer: Answer,
+    pub steps: Steps,
+}
