@@ -1,0 +1,185 @@
+-- What a call that nothing refuses has passed, under names: each condition that did not hold, and the transfer that it may book.
+use mathlib.Core.Path.{_≡_, refl, sym, ap}
+use mathlib.Core.Bool.{true, false, not}
+use mathlib.Core.List.{List, [], _∷_}
+use mathlib.Core.Option.{Option, none, some}
+use Prim.Native.Nat.{ℕ, _<_}
+use lib.Dec.{eqb, ltb}
+use lib.ListN.{length}
+use Rattle.rules.specs.Types.{Half, Step}
+use Rattle.rules.specs.Tests.{isRow, _when_, lowest}
+use Rattle.rules.specs.Directory.{Rows, rowsOf, isKind, sound}
+use Rattle.rules.specs.Chain.{chained, stepsOf, chainConditions, stepLimit, homeOf, chain}
+use Rattle.rules.specs.Booking.{Way, positionCount, cashCount, contra, moveBy, moveChain, payShort, unitsShort, unitsBeyond}
+use Rattle.rules.specs.Calls.{Store, Call, move, pay, settle, misfit, coreConditions, deskConditions, halvesConditions, halvesChain, deriveConditions, bookConditions}
+use Rattle.rules.specs.Demands.{Agree, Allowed}
+use Rattle.rules.proofs.Basics.{impossible, unnot-false, or-none, eqb-is, Quiet, loud}
+use Rattle.rules.proofs.Several.{none-hold}
+use Rattle.rules.proofs.Facts.{Facts}
+use Rattle.rules.proofs.Trail.{Contra, Transfer}
+use Rattle.rules.proofs.Accounts.{kind-small, security-small}
+use Rattle.rules.proofs.ContraAccount.{contra-gives}
+use Rattle.rules.proofs.Soundness.{sound-gives}
+use Rattle.rules.proofs.Chains.{chain-trail}
+use Rattle.rules.proofs.Conditions.{quiet-both, quiet-chained}
+use Rattle.rules.proofs.Refusals.{desk-quiet}
+use Rattle.rules.proofs.Agreement.{named-security, quiet-agree}
+use Rattle.rules.proofs.Permissions.{units-held, quiet-allowed}
+use Rattle.rules.proofs.Moves.{source, target, moveSteps, holder-plain, source-plain, target-plain, move-trail}
+
+pub books-sound : (c : Call) (st : Store) → lowest (deskConditions c st) ≡ 0 → sound (st .directory) ≡ true
+books-sound c st free = unnot-false (sound (st .directory)) (desk-quiet c st free .1 .0)
+
+pub facts-of : (c : Call) (st : Store) → lowest (deskConditions c st) ≡ 0 → Facts (rowsOf (st .directory))
+facts-of c st free = sound-gives (st .directory) (books-sound c st free)
+
+pub core-free : (c : Call) (st : Store) → lowest (deskConditions c st) ≡ 0 → lowest (coreConditions c st) ≡ 0
+core-free c st free = loud (coreConditions c st) (desk-quiet c st free .1 .1)
+
+fitting : (n most : ℕ) → not (eqb n most) ≡ false → n ≡ most
+fitting n most e = eqb-is n most (unnot-false (eqb n most) e)
+
+-- ---- a bring-in or take-out
+pub record MoveFacts (st : Store) (w : Way) (a s q : ℕ) : Type 0 where
+  pub size : length (st .positions) ≡ positionCount
+  pub holder : isKind (rowsOf (st .directory) .accounts) a 0 ≡ true
+  pub other : ℕ
+  pub found : contra (rowsOf (st .directory) .csds) (rowsOf (st .directory) .pairs) (rowsOf (st .directory) .links) s (homeOf (rowsOf (st .directory) .accounts) a) ≡ some other
+  pub against : Contra (rowsOf (st .directory)) a other
+  pub chain : stepsOf (moveChain (rowsOf (st .directory)) w a s) ≡ moveSteps (rowsOf (st .directory)) w a other
+  pub transfer : Transfer (rowsOf (st .directory)) (st .positions) (source w a other) (moveSteps (rowsOf (st .directory)) w a other) (target w a other) s q
+
+-- its chain is one step against the contra account
+move-chain : (r : Rows) (w : Way) (a s : ℕ) (xs : List Step) → moveChain r w a s ≡ chained xs
+    → (other : ℕ) × (contra (r .csds) (r .pairs) (r .links) s (homeOf (r .accounts) a) ≡ some other) × (xs ≡ moveSteps r w a other)
+unfolding moveChain
+move-chain r w a s xs e = go (contra (r .csds) (r .pairs) (r .links) s (homeOf (r .accounts) a)) refl e
+  where
+    go : (o : Option ℕ) → contra (r .csds) (r .pairs) (r .links) s (homeOf (r .accounts) a) ≡ o → moveBy w (homeOf (r .accounts) a) a o ≡ chained xs
+        → (other : ℕ) × (contra (r .csds) (r .pairs) (r .links) s (homeOf (r .accounts) a) ≡ some other) × (xs ≡ moveSteps r w a other)
+    go none f c = impossible (cc)
+    go (some u) f c = (u, f, sym (ap stepsOf c))
+
+pub move-facts : (st : Store) (w : Way) (a s q : ℕ) → lowest (deskConditions (move w a s q) st) ≡ 0 → MoveFacts st w a s q
+unfolding misfit
+move-facts st w a s q free =
+    record {
+      size = fitting (length (st .positions)) positionCount (all .0);
+      holder = holder;
+      other = one .0;
+      found = one .1;
+      against = against;
+      chain = one .2;
+      transfer = record {
+        trail = move-trail rows a (one .0) holder against facts w;
+        security = security-small rows facts s (unnot-false (isRow (rows .securities) s) (or-none (not (isRow (rows .accounts) a)) (not (isRow (rows .securities) s)) (all .1 .1 .0) .1));
+        from = source-plain rows a (one .0) holder against w;
+        to = target-plain rows a (one .0) holder against w;
+        enough = units-held (rows .accounts) (st .positions) s q (moveSteps rows w a (one .0)) (rw (one .2) at (parts .1 .0));
+      };
+    }
+  where
+    rows : Rows
+    rows = rowsOf (st .directory)
+
+    all : Quiet (deskConditions (move w a s q) st)
+    all = desk-quiet (move w a s q) st free
+
+    facts : Facts rows
+    facts = facts-of (move w a s q) st free
+
+    holder : isKind (rows .accounts) a 0 ≡ true
+    holder = unnot-false (isKind (rows .accounts) a 0) (all .1 .1 .1 .1 .0)
+
+    steps : List Step
+    steps = stepsOf (moveChain rows w a s)
+
+    parts : Quiet (chainConditions (moveChain rows w a s)) × Quiet (20 when unitsShort (rows .accounts) (st .positions) s q steps ∷ 22 when unitsBeyond (st .positions) s q steps ∷ [])
+    parts =
+        quiet-both (chainConditions (moveChain rows w a s)) (20 when unitsShort (rows .accounts) (st .positions) s q steps ∷ 22 when unitsBeyond (st .positions) s q steps ∷ [])
+        (all .1 .1 .1 .1 .1)
+
+    one : (other : ℕ) × (contra (rows .csds) (rows .pairs) (rows .links) s (homeOf (rows .accounts) a) ≡ some other) × (steps ≡ moveSteps rows w a other)
+    one = move-chain rows w a s steps (quiet-chained (moveChain rows w a s) (parts .0))
+
+    against : Contra rows a (one .0)
+    against = contra-gives rows facts s a (one .0) holder (one .1)
+
+-- ---- a pay-in or pay-out
+pub record PayFacts (st : Store) (w : Way) (a m : ℕ) : Type 0 where
+  pub size : length (st .cash) ≡ cashCount
+  pub account : a < cashCount
+  pub covered : payShort w (st .cash) a m ≡ false
+
+pub pay-facts : (st : Store) (w : Way) (a m : ℕ) → lowest (deskConditions (pay w a m) st) ≡ 0 → PayFacts st w a m
+unfolding misfit
+pay-facts st w a m free =
+    let rows : Rows = rowsOf (st .directory) in
+    let all : Quiet (deskConditions (pay w a m) st) = desk-quiet (pay w a m) st free in
+    record {
+      size = fitting (length (st .cash)) cashCount (all .0);
+      account = kind-small rows (facts-of (pay w a m) st free) a 0 (unnot-false (isKind (rows .accounts) a 0) (all .1 .1 .1 .1 .0));
+      covered = all .1 .1 .1 .1 .1 .0;
+    }
+
+-- ---- a settlement
+pub record SettleFacts (st : Store) (h g : Half) (steps : List Step) : Type 0 where
+  pub positions : length (st .positions) ≡ positionCount
+  pub cash : length (st .cash) ≡ cashCount
+  pub agree : Agree (rowsOf (st .directory)) h g
+  pub chain : chain (rowsOf (st .directory)) (h .security) (h .account) (g .account) ≡ chained steps
+  pub allowed : Allowed st h g steps
+  pub transfer : Transfer (rowsOf (st .directory)) (st .positions) (h .account) steps (g .account) (h .security) (h .quantity)
+  pub payer : g .account < cashCount
+  pub payee : h .account < cashCount
+
+pub settle-facts : (st : Store) (h g : Half) (lent : List Step) → lowest (deskConditions (settle h g lent) st) ≡ 0
+    → SettleFacts st h g (stepsOf (halvesChain (rowsOf (st .directory)) h g))
+unfolding misfit
+settle-facts st h g lent free =
+    record {
+      positions = fitting (length (st .positions)) positionCount (lists .0);
+      cash = fitting (length (st .cash)) cashCount (lists .1 .0);
+      agree = agree;
+      chain = is;
+      allowed = allowed;
+      transfer = record {
+        trail = chain-trail rows facts (h .security) (h .account) (g .account) steps (agree .deliverer) (agree .receiver) (agree .two) is;
+        security = security-small rows facts (h .security) (named-security rows h (agree .delivererNamed));
+        from = holder-plain rows (h .account) (agree .deliverer);
+        to = holder-plain rows (g .account) (agree .receiver);
+        enough = allowed .holdings;
+      };
+      payer = kind-small rows facts (g .account) 0 (agree .receiver);
+      payee = kind-small rows facts (h .account) 0 (agree .deliverer);
+    }
+  where
+    rows : Rows
+    rows = rowsOf (st .directory)
+
+    steps : List Step
+    steps = stepsOf (halvesChain rows h g)
+
+    all : Quiet (deskConditions (settle h g lent) st)
+    all = desk-quiet (settle h g lent) st free
+
+    facts : Facts rows
+    facts = facts-of (settle h g lent) st free
+
+    lists : (not (eqb (length (st .positions)) positionCount) ≡ false) × ((not (eqb (length (st .cash)) cashCount) ≡ false) × (ltb (length lent) stepLimit ≡ false))
+    lists = none-hold (not (eqb (length (st .positions)) positionCount)) (not (eqb (length (st .cash)) cashCount) ∷ ltb (length lent) stepLimit ∷ []) (all .0)
+
+    parts : Quiet (deriveConditions rows h g) × Quiet (bookConditions rows (st .positions) (st .cash) h g steps)
+    parts = quiet-both (deriveConditions rows h g) (bookConditions rows (st .positions) (st .cash) h g steps) (all .1 .1)
+
+    before : Quiet (halvesConditions rows h g) × Quiet (chainConditions (halvesChain rows h g))
+    before = quiet-both (halvesConditions rows h g) (chainConditions (halvesChain rows h g)) (parts .0)
+
+    agree : Agree rows h g
+    agree = quiet-agree rows h g (before .0)
+
+    allowed : Allowed st h g steps
+    allowed = quiet-allowed st h g steps (parts .1)
+
+    is : chain rows (h .security) (h .account) (g .account) ≡ chained steps
+    is = quiet-chained (halvesChain rows h g) (before .1)

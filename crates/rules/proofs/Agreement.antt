@@ -1,0 +1,77 @@
+-- The conditions 6 to 13 as facts: none of them holds exactly when the halves agree on two participant accounts.
+use mathlib.Core.Path.{_≡_}
+use mathlib.Core.Logic.{_≢_}
+use mathlib.Core.Bool.{true, false, not, _||_}
+use mathlib.Core.List.{[], _∷_}
+use Prim.Native.Nat.{ℕ, _≤_}
+use native.Mathlib.Omega.{arith}
+use lib.Dec.{eqb, ltb}
+use Rattle.rules.specs.Types.{Half}
+use Rattle.rules.specs.Tests.{isRow}
+use Rattle.rules.specs.Directory.{Rows, isKind, inBooks}
+use Rattle.rules.specs.Booking.{limit, outOfRange, amountOutOfRange}
+use Rattle.rules.specs.Calls.{halfUnknown, halfOutOfRange, halvesDiffer, halvesConditions}
+use Rattle.rules.specs.Demands.{Agree}
+use Rattle.rules.proofs.Basics.{unnot-false, or-none, or-false, eqb-is, eqb-true, eqb-not, eqb-false, ltb-not, ltb-false, Quiet}
+use Rattle.rules.proofs.Several.{none-hold}
+
+-- ---- single tests
+in-range : (q : ℕ) → outOfRange q ≡ false → (1 ≤ q) × (q ≤ limit)
+in-range q e =
+    let both : (eqb q 0 ≡ false) × (ltb limit q ≡ false) = or-none (eqb q 0) (ltb limit q) e in
+    let n : q ≢ 0 = eqb-not q 0 (both .0) in
+    (omega arith, ltb-not limit q (both .1))
+
+within-ranges : (x : Half) → 1 ≤ x .quantity → x .quantity ≤ limit → x .amount ≤ limit → halfOutOfRange x ≡ false
+within-ranges x l k m =
+    or-false (outOfRange (x .quantity)) (amountOutOfRange (x .amount))
+    (or-false (eqb (x .quantity) 0) (ltb limit (x .quantity)) (eqb-false (x .quantity) 0 (omega arith)) (ltb-false limit (x .quantity) k))
+    (ltb-false limit (x .amount) m)
+
+equal : (x y : ℕ) → not (eqb x y) ≡ false → x ≡ y
+equal x y e = eqb-is x y (unnot-false (eqb x y) e)
+
+pub named-security : (r : Rows) (h : Half) → halfUnknown r h ≡ false → isRow (r .securities) (h .security) ≡ true
+named-security r h e =
+    unnot-false (isRow (r .securities) (h .security))
+    (none-hold (not (isRow (r .accounts) (h .account))) (not (isRow (r .csds) (h .counterpart)) ∷ not (isRow (r .securities) (h .security)) ∷ []) e .1 .1)
+
+-- ---- both halves
+module _ (r : Rows) (h g : Half) where
+  pub agree-quiet : Agree r h g → Quiet (halvesConditions r h g)
+  agree-quiet A =
+      let low : 1 ≤ h .quantity = A .quantity .0 in
+      let high : h .quantity ≤ limit = A .quantity .1 in
+      let most : h .amount ≤ limit = A .amount in
+      let quantity : h .quantity ≡ g .quantity = A .sameQuantity in
+      let amount : h .amount ≡ g .amount = A .sameAmount in
+      let known = or-false (halfUnknown r h) (halfUnknown r g) (A .delivererNamed) (A .receiverNamed) in
+      let ranges = or-false (halfOutOfRange h) (halfOutOfRange g) (within-ranges h low high most) (within-ranges g (omega arith) (omega arith) (omega arith)) in
+      let kinds : (not (isKind (r .accounts) (h .account) 0) || not (isKind (r .accounts) (g .account) 0)) ≡ false = rw (A .deliverer, A .receiver) in
+      let same : halvesDiffer (r .accounts) h g ≡ false
+      = rw (eqb-true (h .security) (g .security) (A .sameSecurity), eqb-true (h .quantity) (g .quantity) quantity, eqb-true (h .amount) (g .amount) amount, A .receiverCsd, A .delivererCsd) in
+      (known, (ranges, (kinds, (same, (eqb-false (h .account) (g .account) (A .two), tt)))))
+
+  pub quiet-agree : Quiet (halvesConditions r h g) → Agree r h g
+  quiet-agree q =
+      let named = or-none (halfUnknown r h) (halfUnknown r g) (q .0) in
+      let ranges = or-none (outOfRange (h .quantity)) (amountOutOfRange (h .amount)) (or-none (halfOutOfRange h) (halfOutOfRange g) (q .1 .0) .0) in
+      let kinds = or-none (not (isKind (r .accounts) (h .account) 0)) (not (isKind (r .accounts) (g .account) 0)) (q .1 .1 .0) in
+      let receiver = inBooks (r .accounts) (g .account) (h .counterpart) in
+      let deliverer = inBooks (r .accounts) (h .account) (g .counterpart) in
+      let same =
+      none-hold (not (eqb (h .security) (g .security))) (not (eqb (h .quantity) (g .quantity)) ∷ not (eqb (h .amount) (g .amount)) ∷ not receiver ∷ not deliverer ∷ []) (q .1 .1 .1 .0) in
+      record {
+        delivererNamed = named .0;
+        receiverNamed = named .1;
+        quantity = in-range (h .quantity) (ranges .0);
+        amount = ltb-not limit (h .amount) (ranges .1);
+        deliverer = unnot-false (isKind (r .accounts) (h .account) 0) (kinds .0);
+        receiver = unnot-false (isKind (r .accounts) (g .account) 0) (kinds .1);
+        sameSecurity = equal (h .security) (g .security) (same .0);
+        sameQuantity = equal (h .quantity) (g .quantity) (same .1 .0);
+        sameAmount = equal (h .amount) (g .amount) (same .1 .1 .0);
+        receiverCsd = unnot-false receiver (same .1 .1 .1 .0);
+        delivererCsd = unnot-false deliverer (same .1 .1 .1 .1);
+        two = eqb-not (h .account) (g .account) (q .1 .1 .1 .1 .0);
+      }

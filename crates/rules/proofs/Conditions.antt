@@ -1,0 +1,114 @@
+-- Laws of a list of conditions: their numbers ascend, so the first that holds has the lowest number that applies.
+use mathlib.Core.Path.{_≡_, refl}
+use mathlib.Core.Logic.{_⊎_, inl, inr}
+use mathlib.Core.Bool.{Bool, true, false, _&&_, cond, true≢false}
+use mathlib.Core.List.{List, [], _∷_, _++_}
+use Prim.Native.Nat.{ℕ, zero, suc, _≤_}
+use native.Mathlib.Omega.{arith}
+use lib.Dec.{leb}
+use Rattle.rules.specs.Types.{Step}
+use Rattle.rules.specs.Tests.{Condition, lowest}
+use Rattle.rules.specs.Chain.{Chain, chained, unchained, stepsOf, chainConditions}
+use Rattle.rules.specs.Demands.{Applies, here, there}
+use Rattle.rules.proofs.Basics.{and-both, and-true, leb-is, leb-true, Quiet, numbered}
+
+-- the numbers ascend, from lo to hi
+abbrev pub ascending : ℕ → List Condition → ℕ → Bool
+ascending lo [] hi = leb lo hi
+ascending lo (c ∷ cs) hi = leb lo (c .number) && ascending (c .number) cs hi
+
+through : (x y z : ℕ) → x ≤ y → y ≤ z → x ≤ z
+through x y z l k = omega arith
+
+module _ (lo hi : ℕ) (c : Condition) (cs : List Condition) where
+  split : ascending lo (c ∷ cs) hi ≡ true → (lo ≤ c .number) × (ascending (c .number) cs hi ≡ true)
+  split e = let both = and-both (leb lo (c .number)) (ascending (c .number) cs hi) e in (leb-is lo (c .number) (both .0), both .1)
+
+  joined : lo ≤ c .number → ascending (c .number) cs hi ≡ true → ascending lo (c ∷ cs) hi ≡ true
+  joined l e = and-true (leb lo (c .number)) (ascending (c .number) cs hi) (leb-true lo (c .number) l) e
+
+pub ascending-lower : (low lo hi : ℕ) (cs : List Condition) → low ≤ lo → ascending lo cs hi ≡ true → ascending low cs hi ≡ true
+ascending-lower low lo hi [] l e = leb-true low hi (through low lo hi l (leb-is lo hi e))
+ascending-lower low lo hi (c ∷ cs) l e =
+    joined low hi c cs (through low lo (c .number) l (split lo hi c cs e .0)) (split lo hi c cs e .1)
+
+pub ascending-append : (lo mid hi : ℕ) (xs ys : List Condition) → ascending lo xs mid ≡ true → ascending mid ys hi ≡ true → ascending lo (xs ++ ys) hi ≡ true
+ascending-append lo mid hi [] ys e f = ascending-lower lo mid hi ys (leb-is lo mid e) f
+ascending-append lo mid hi (x ∷ xs) ys e f =
+    joined lo hi x (xs ++ ys) (split lo mid x xs e .0) (ascending-append (x .number) mid hi xs ys (split lo mid x xs e .1) f)
+
+ascending-range : (lo hi : ℕ) (cs : List Condition) → ascending lo cs hi ≡ true → lo ≤ hi
+ascending-range lo hi [] e = leb-is lo hi e
+ascending-range lo hi (c ∷ cs) e =
+    through lo (c .number) hi (split lo hi c cs e .0) (ascending-range (c .number) hi cs (split lo hi c cs e .1))
+
+pub ascending-numbered : (lo hi : ℕ) (cs : List Condition) → 1 ≤ lo → ascending lo cs hi ≡ true → numbered cs ≡ true
+ascending-numbered lo hi [] l e = refl
+ascending-numbered lo hi (c ∷ cs) l e =
+    let k : 1 ≤ c .number = through 1 lo (c .number) l (split lo hi c cs e .0) in
+    and-true (leb 1 (c .number)) (numbered cs) (leb-true 1 (c .number) k) (ascending-numbered (c .number) hi cs k (split lo hi c cs e .1))
+
+-- ---- the lowest number
+
+-- it is 0, or one of the list's
+pub lowest-range : (lo hi : ℕ) (cs : List Condition) → ascending lo cs hi ≡ true → (lowest cs ≡ 0) ⊎ ((lo ≤ lowest cs) × (lowest cs ≤ hi))
+lowest-range lo hi [] e = inl refl
+lowest-range lo hi (c ∷ cs) e =
+    go (c .holds) (split lo hi c cs e .0) (ascending-range (c .number) hi cs (split lo hi c cs e .1)) (lowest-range (c .number) hi cs (split lo hi c cs e .1))
+  where
+    go : (b : Bool) → lo ≤ c .number → c .number ≤ hi → (lowest cs ≡ 0) ⊎ ((c .number ≤ lowest cs) × (lowest cs ≤ hi))
+        → (cond b (c .number) (lowest cs) ≡ 0) ⊎ ((lo ≤ cond b (c .number) (lowest cs)) × (cond b (c .number) (lowest cs) ≤ hi))
+    go true l k below = inr (l, k)
+    go false l k (inl f) = inl f
+    go false l k (inr f) = inr (through lo (c .number) (lowest cs) l (f .0), f .1)
+
+pub lowest-applies : (n : ℕ) (cs : List Condition) → lowest cs ≡ suc n → Applies (suc n) cs
+lowest-applies n [] e = absurd (omega arith)
+lowest-applies n (c ∷ cs) e = go (c .holds) refl e (λ f. lowest-applies n cs f)
+  where
+    go : (b : Bool) → c .holds ≡ b → cond b (c .number) (lowest cs) ≡ suc n → (lowest cs ≡ suc n → Applies (suc n) cs) → Applies (suc n) (c ∷ cs)
+    go true h f below = here f h
+    go false h f below = there (below f)
+
+pub nothing-lowest : (cs : List Condition) → ((n : ℕ) → Applies n cs → ⊥) → lowest cs ≡ 0
+nothing-lowest cs clear = go (lowest cs) refl
+  where
+    go : (n : ℕ) → lowest cs ≡ n → lowest cs ≡ 0
+    go zero e = e
+    go (suc n) e = absurd (clear (suc n) (lowest-applies n cs e))
+
+applies-above : (lo hi m : ℕ) (cs : List Condition) → ascending lo cs hi ≡ true → Applies m cs → lo ≤ m
+applies-above lo hi m (c ∷ cs) e (here n h) = rw (← n) (split lo hi c cs e .0)
+applies-above lo hi m (c ∷ cs) e (there x) =
+    through lo (c .number) m (split lo hi c cs e .0) (applies-above (c .number) hi m cs (split lo hi c cs e .1) x)
+
+-- where a condition applies, it is one of the list's, and not above that condition's
+pub lowest-least : (lo hi m : ℕ) (cs : List Condition) → ascending lo cs hi ≡ true → Applies m cs → (lo ≤ lowest cs) × (lowest cs ≤ m)
+lowest-least lo hi m (c ∷ cs) e (here n h) = rw h (split lo hi c cs e .0, omega arith)
+lowest-least lo hi m (c ∷ cs) e (there x) =
+    go (c .holds) (split lo hi c cs e .0) (applies-above (c .number) hi m cs (split lo hi c cs e .1) x) (lowest-least (c .number) hi m cs (split lo hi c cs e .1) x)
+  where
+    go : (b : Bool) → lo ≤ c .number → c .number ≤ m → (c .number ≤ lowest cs) × (lowest cs ≤ m)
+        → (lo ≤ cond b (c .number) (lowest cs)) × (cond b (c .number) (lowest cs) ≤ m)
+    go true l k below = (l, k)
+    go false l k below = (through lo (c .number) (lowest cs) l (below .0), below .1)
+
+-- ---- two lists of conditions, and a chain's
+pub quiet-both : (xs ys : List Condition) → Quiet (xs ++ ys) → Quiet xs × Quiet ys
+quiet-both [] ys q = (tt, q)
+quiet-both (x ∷ xs) ys q = let rest : Quiet xs × Quiet ys = quiet-both xs ys (q .1) in ((q .0, rest .0), rest .1)
+
+pub both-quiet : (xs ys : List Condition) → Quiet xs → Quiet ys → Quiet (xs ++ ys)
+both-quiet [] ys p q = q
+both-quiet (x ∷ xs) ys p q = (p .0, both-quiet xs ys (p .1) q)
+
+pub quiet-chained : (x : Chain) → Quiet (chainConditions x) → x ≡ chained (stepsOf x)
+quiet-chained (chained xs) q = refl
+quiet-chained (unchained n) q = absurd (true≢false (q .0))
+
+pub chained-quiet : (x : Chain) (xs : List Step) → x ≡ chained xs → Quiet (chainConditions x)
+chained-quiet x xs e = rw e tt
+
+pub chain-ascends : (lo hi : ℕ) (x : Chain) → lo ≤ hi → ((n : ℕ) → x ≡ unchained n → (lo ≤ n) × (n ≤ hi)) → ascending lo (chainConditions x) hi ≡ true
+chain-ascends lo hi (chained xs) l h = leb-true lo hi l
+chain-ascends lo hi (unchained n) l h = and-true (leb lo n) (leb n hi) (leb-true lo n (h n refl .0)) (leb-true n hi (h n refl .1))

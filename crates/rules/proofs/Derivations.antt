@@ -1,0 +1,78 @@
+-- Demand 2, the chain: once nothing before 14 applies, the chain alone decides a derivation, and it is the one that the rules give.
+use mathlib.Core.Path.{_≡_, refl, sym, ap, _∙_}
+use mathlib.Core.Bool.{not}
+use mathlib.Core.List.{List, _∷_}
+use Prim.Native.Nat.{ℕ, _≤_}
+use lib.ListN.{length}
+use Rattle.rules.specs.Types.{Half, Step, Answer, Chained}
+use Rattle.rules.specs.Tests.{lowest, _when_}
+use Rattle.rules.specs.Directory.{Rows, rowsOf, sound}
+use Rattle.rules.specs.Chain.{Chain, chained, stepsOf, chainConditions, stepLimit}
+use Rattle.rules.specs.Calls.{Store, Call, derive, Outcome, desk, misfit, deskConditions, halvesConditions, halvesChain, success, written, writtenFor, isAccepted, countOf}
+use Rattle.rules.specs.Demands.{ChainOfHalves, Admitted, Returns, Derives}
+use Rattle.rules.proofs.Basics.{unnot-false, Quiet, quiet, loud}
+use Rattle.rules.proofs.Facts.{Facts}
+use Rattle.rules.proofs.Soundness.{sound-gives}
+use Rattle.rules.proofs.ChainRelation.{chain-is-given, chain-given-is, chain-one}
+use Rattle.rules.proofs.ChainSize.{chain-few}
+use Rattle.rules.proofs.Conditions.{quiet-both, both-quiet, quiet-chained, chained-quiet}
+use Rattle.rules.proofs.Refusals.{desk-quiet, desk-clear, accepted-lowest}
+
+-- what a call that nothing refuses returns
+pub returns : (c : Call) (st : Store) (x : Answer) (steps lent : List Step) → lowest (deskConditions c st) ≡ 0
+    → success c st ≡ x → writtenFor c st ≡ written steps lent → length steps ≤ stepLimit → Returns (desk c st) x steps lent
+returns c st x steps lent z e f few =
+    record {
+      answers = ap (λ (o : Outcome). o .answer) (desk-clear c st z) ∙ e;
+      writes = ap (λ (o : Outcome). o .steps) (desk-clear c st z) ∙ f;
+      few = few;
+    }
+
+module _ (st : Store) (h g : Half) (lent : List Step) where
+  abbrev rows : Rows
+  rows = rowsOf (st .directory)
+
+  derived : (steps : List Step) → lowest (deskConditions (derive h g lent) st) ≡ 0 → halvesChain rows h g ≡ chained steps
+      → Returns (desk (derive h g lent) st) (Chained (length steps)) steps lent
+  derived steps z e =
+      returns (derive h g lent) st (Chained (length steps)) steps lent z
+      (ap (λ (x : Chain). Chained (length (stepsOf x))) e)
+      (ap (λ (x : Chain). written (stepsOf x) lent) e)
+      (chain-few rows _ _ _ steps e)
+
+  pub derives : Admitted st h g lent → Derives st h g lent
+  derives admitted =
+      record {
+        whenGiven = λ steps is. derived steps (unrefused steps (given steps is)) (given steps is);
+        onlyThen = λ k e. answered k e (accepted-lowest (derive h g lent) st (ap isAccepted e));
+        one = chain-one rows facts (h .security) (h .account) (g .account);
+      }
+    where
+      before : Quiet (3 when misfit (derive h g lent) st ∷ 4 when not (sound (st .directory)) ∷ halvesConditions rows h g)
+      before = quiet (3 when misfit (derive h g lent) st ∷ 4 when not (sound (st .directory)) ∷ halvesConditions rows h g) refl admitted
+
+      facts : Facts rows
+      facts = sound-gives (st .directory) (unnot-false (sound (st .directory)) (before .1 .0))
+
+      given : (steps : List Step) → ChainOfHalves st h g steps → halvesChain rows h g ≡ chained steps
+      given steps is = chain-is-given rows facts (h .security) (h .account) (g .account) steps is
+
+      unrefused : (steps : List Step) → halvesChain rows h g ≡ chained steps → lowest (deskConditions (derive h g lent) st) ≡ 0
+      unrefused steps e =
+          loud (deskConditions (derive h g lent) st) (
+            before .0,
+            (
+              before .1 .0,
+              both-quiet (halvesConditions rows h g) (chainConditions (halvesChain rows h g)) (before .1 .1) (chained-quiet (halvesChain rows h g) steps e),
+            ),
+          )
+
+      answered : (k : ℕ) → desk (derive h g lent) st .answer ≡ Chained k → lowest (deskConditions (derive h g lent) st) ≡ 0
+          → (steps : List Step) × ChainOfHalves st h g steps × (k ≡ length steps) × Returns (desk (derive h g lent) st) (Chained k) steps lent
+      answered k e z =
+          let steps : List Step = stepsOf (halvesChain rows h g) in
+          let all : Quiet (deskConditions (derive h g lent) st) = desk-quiet (derive h g lent) st z in
+          let is : halvesChain rows h g ≡ chained steps = quiet-chained (halvesChain rows h g) (quiet-both (halvesConditions rows h g) (chainConditions (halvesChain rows h g)) (all .1 .1) .1) in
+          let it : Returns (desk (derive h g lent) st) (Chained (length steps)) steps lent = derived steps z is in
+          let same : k ≡ length steps = ap countOf (sym e ∙ it .answers) in
+          (steps, chain-given-is rows facts (h .security) (h .account) (g .account) steps is, same, rw same it)

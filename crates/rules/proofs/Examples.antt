@@ -1,0 +1,43 @@
+-- The examples of document 01, each by computing the definitions.
+use mathlib.Core.Path.{_≡_, refl}
+use mathlib.Core.Bool.{true, false}
+use mathlib.Core.List.{[], _∷_, map}
+use Rattle.rules.specs.Tests.{isRow, isFull}
+use Rattle.rules.specs.Identifiers.{isBic, sameBic, isIsin, sameIsin, spread, alternating, isinSum, isinChecks}
+use Rattle.rules.specs.Directory
+use Rattle.rules.specs.Walks.{defaultHop, directedHop, walk}
+use Rattle.rules.specs.Chain
+use Rattle.rules.specs.Booking
+use Rattle.rules.specs.Calls
+use Rattle.rules.specs.Stream
+use Rattle.rules.specs.Stream.{bytes}
+use Rattle.rules.specs.Examples.{Example, examples, drawn, derived, sampleCalls, sampleAnswers, samplePositions, answersOf, firstPositions, sampleInput, sampleOutput}
+
+-- "XS0000000009 and XS0000000017 are valid, XS0000000008 is not."
+pub isin-examples : (isinChecks (bytes "XS0000000009") ∷ isinChecks (bytes "XS0000000017") ∷ isinChecks (bytes "XS0000000008") ∷ []) ≡ (true ∷ true ∷ false ∷ [])
+unfolding spread alternating isinSum isinChecks
+isin-examples = refl
+
+-- the starred chains, and the one that stands behind them, collected
+pub chains : map derived examples ≡ map (λ (e : Example). e .gives) examples
+unfolding examples Directory.external Directory.pairOf Directory.hasIssuer Directory.hasLinkTo Directory.issuerLink Directory.defaultLink defaultHop directedHop walk Chain.isNamed Chain.firstShared Chain.upTo Chain.route Chain.climb Chain.turned Chain.lastOf Chain.issuance Chain.homeOf Chain.chain
+chains = refl
+
+-- each of these directories is sound
+pub sound-examples : map (λ (e : Example). Directory.soundRows (drawn (e .links))) examples ≡ map (λ (e : Example). true) examples
+unfolding examples isRow isFull isBic sameBic isIsin sameIsin spread alternating isinSum isinChecks Directory.external Directory.isKind Directory.inBooks Directory.isJoined Directory.isPaired Directory.hasLink Directory.hasIssuer Directory.hasInvestor Directory.hasLinkTo Directory.bicEntered Directory.csdRefusal Directory.isinEntered Directory.securityRefusal Directory.accountRefusal Directory.pairRefusal Directory.linkRefusal Directory.csdsSound Directory.securitiesSound Directory.accountsSound Directory.pairsSound Directory.linksSound Directory.soundRows
+sound-examples = refl
+
+-- the sample run's thirteen answers, the positions that it leaves, and the text that it prints
+sample : (answersOf (Calls.run sampleCalls .items) ≡ sampleAnswers) × (firstPositions (Calls.run sampleCalls .store .positions) ≡ samplePositions) × (Stream.transcript sampleInput ≡ sampleOutput)
+unfolding sampleCalls sampleAnswers samplePositions isRow isFull isBic sameBic isIsin sameIsin spread alternating isinSum isinChecks defaultHop directedHop walk Directory.external Directory.isKind Directory.inBooks Directory.pairOf Directory.isJoined Directory.isPaired Directory.hasLink Directory.hasIssuer Directory.hasInvestor Directory.hasLinkTo Directory.issuerLink Directory.defaultLink Directory.bicEntered Directory.csdRefusal Directory.isinEntered Directory.securityRefusal Directory.accountRefusal Directory.pairRefusal Directory.linkRefusal Directory.emptyDirectory Directory.csdsSound Directory.securitiesSound Directory.accountsSound Directory.pairsSound Directory.linksSound Directory.withinLimits Directory.soundRows Directory.sound Chain.isNamed Chain.firstShared Chain.upTo Chain.route Chain.climb Chain.turned Chain.lastOf Chain.issuance Chain.homeOf Chain.chain Booking.beyond Booking.position Booking.balance Booking.addUnits Booking.addCents Booking.moved Booking.booked Booking.unitsShort Booking.unitsBeyond Booking.cashShort Booking.cashBeyond Booking.paid Booking.paymentBeyond Booking.contra Booking.moveChain Booking.sum Calls.misfit Calls.desk Calls.zeros Calls.emptyStore sampleInput sampleOutput Stream.numberAt Stream.callOf Stream.nextOf Stream.digits Stream.signed Stream.stepLine Stream.stepLines Stream.answerText Stream.said Stream.totalLine Stream.totalLines Stream.cashLine Stream.ending Stream.linesFrom Stream.transcript
+sample = (refl, refl, refl)
+
+pub sample-answers : answersOf (Calls.run sampleCalls .items) ≡ sampleAnswers
+sample-answers = sample .0
+
+pub sample-positions : firstPositions (Calls.run sampleCalls .store .positions) ≡ samplePositions
+sample-positions = sample .1
+
+pub sample-text : Stream.transcript sampleInput ≡ sampleOutput
+sample-text = sample .2

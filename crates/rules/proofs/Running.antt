@@ -1,0 +1,77 @@
+-- A store that calls have made from the empty one stays ready for the next: arrays and lists keep their lengths and the directory stays
+-- sound, so that the tests 3 and 4 find nothing and a call's core is the call.
+use mathlib.Core.Path.{_≡_, refl, sym, ap, _∙_}
+use mathlib.Core.Bool.{Bool, true, false, not, cond}
+use mathlib.Core.List.{List}
+use Prim.Native.Nat.{ℕ, zero, suc}
+use lib.IntN.{ℤ}
+use lib.Dec.{eqb}
+use lib.ListN.{length}
+use Rattle.rules.specs.Types.{Half, Step}
+use Rattle.rules.specs.Tests.{lowest}
+use Rattle.rules.specs.Directory.{rowsOf, Row, rowConditions, sound}
+use Rattle.rules.specs.Booking.{Way, positionCount, cashCount, payment, paid, cents, lessCents, addCents}
+use Rattle.rules.specs.Calls.{Store, Call, enter, move, pay, settle, derive, misfit, coreConditions, chainFor, changed, outcome, core, desk, emptyStore}
+use Rattle.rules.proofs.Tables.{Sized, empty-sized, empty-sound, added-sized}
+use Rattle.rules.proofs.Growth.{keeps-sound}
+use Rattle.rules.proofs.Bookings.{booked-length}
+use Rattle.rules.proofs.Payments.{cents-length}
+use Rattle.rules.proofs.EmptyStore.{zeros-length}
+
+pub record Ready (st : Store) : Type 0 where
+  pub sized : Sized (st .directory)
+  pub soundBooks : sound (st .directory) ≡ true
+  pub positions : length (st .positions) ≡ positionCount
+  pub cash : length (st .cash) ≡ cashCount
+
+pub empty-ready : Ready emptyStore
+unfolding emptyStore
+empty-ready = record { sized = empty-sized; soundBooks = empty-sound; positions = zeros-length positionCount; cash = zeros-length cashCount }
+
+paid-length : (c : List ℤ) (payer payee m : ℕ) → length (paid c payer payee m) ≡ length c
+unfolding paid
+paid-length c payer payee m = go (eqb m 0)
+  where
+    go : (b : Bool) → length (cond b c (addCents (addCents c payer (lessCents (cents m))) payee (cents m))) ≡ length c
+    go true = refl
+    go false = cents-length (addCents c payer (lessCents (cents m))) payee (cents m) ∙ cents-length c payer (lessCents (cents m))
+
+-- an accepted call keeps the store ready
+changed-ready : (c : Call) (st : Store) → Ready st → lowest (coreConditions c st) ≡ 0 → Ready (changed c st)
+changed-ready (enter x) st h e =
+    record {
+      sized = added-sized x (st .directory) (h .sized);
+      soundBooks = keeps-sound x (st .directory) (h .sized) (h .soundBooks) e;
+      positions = h .positions;
+      cash = h .cash;
+    }
+changed-ready (move w a s q) st h e =
+    record {
+      sized = h .sized;
+      soundBooks = h .soundBooks;
+      positions = booked-length (chainFor (move w a s q) st) s q (st .positions) ∙ h .positions;
+      cash = h .cash;
+    }
+changed-ready (pay w a m) st h e =
+    record { sized = h .sized; soundBooks = h .soundBooks; positions = h .positions; cash = cents-length (st .cash) a (payment w m) ∙ h .cash }
+changed-ready (settle p q lent) st h e =
+    record {
+      sized = h .sized;
+      soundBooks = h .soundBooks;
+      positions = booked-length (chainFor (settle p q lent) st) (p .security) (p .quantity) (st .positions) ∙ h .positions;
+      cash = paid-length (st .cash) (q .account) (p .account) (p .amount) ∙ h .cash;
+    }
+changed-ready (derive p q lent) st h e = h
+
+pub core-ready : (c : Call) (st : Store) → Ready st → Ready (core c st .store)
+unfolding core
+core-ready c st h = go (lowest (coreConditions c st)) refl
+  where
+    go : (n : ℕ) → lowest (coreConditions c st) ≡ n → Ready (outcome n c st .store)
+    go zero e = changed-ready c st h e
+    go (suc n) e = h
+
+-- where the lists that a call is lent fit, its core is the call
+pub core-is-desk : (c : Call) (st : Store) → Ready st → misfit c st ≡ false → desk c st ≡ core c st
+unfolding desk core
+core-is-desk c st h e = rw (e, h .soundBooks)

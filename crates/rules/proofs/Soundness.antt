@@ -1,0 +1,148 @@
+-- What a sound directory gives: each row was accepted after those before it, and of two rows that clash the later would not have been.
+use mathlib.Core.Path.{_≡_, refl, sym}
+use mathlib.Core.Logic.{_≢_, _⊎_, inl, inr}
+use mathlib.Core.Bool.{true, false, true≢false}
+use mathlib.Core.List.{List, [], _∷_, List·Memᴰ, List·Memᴰ·head, List·Memᴰ·tail}
+use Prim.Native.Nat.{ℕ, zero, suc, _≤_, _<_, min}
+use native.Mathlib.Omega.{arith}
+use lib.Dec.{eqb, leb}
+use lib.ListN.{length, take, length-take}
+use Rattle.rules.specs.Types.{Account, Pair, Link, Directory}
+use Rattle.rules.specs.Tests.{isRow}
+use Rattle.rules.specs.Directory as Entry
+use Rattle.rules.specs.Directory.{Rows, rowsOf, csdLimit, securityLimit, accountLimit, pairLimit, linkLimit, noCsd, noAccount, external, inBooks, uses, joins, isJoined, isPaired, isLink, isIssuer, isInvestor, isLinkTo, hasLink, hasIssuer, hasInvestor, hasLinkTo, accountsSound, pairsSound, linksSound, withinLimits, soundRows, sound}
+use Rattle.rules.proofs.Basics.{clash, and-both, or-cases, eqb-is, eqb-true, eqb-false, ltb-is, leb-is, any-true}
+use Rattle.rules.proofs.Facts.{PairFacts, LinkFacts, Facts}
+use Rattle.rules.proofs.InOrder.{Judged, judged, one-row}
+use Rattle.rules.proofs.NewAccounts.{NewAccount, accepted-account}
+use Rattle.rules.proofs.NewPairs.{NewPair, accepted-pair}
+use Rattle.rules.proofs.NewLinks.{NewLink, accepted-link}
+use Rattle.rules.proofs.SoundParts.{WithinLimits, limits, SoundTables, tables}
+
+few : {A : Type 0} (count most : ℕ) (rows : List A) → leb count most ≡ true → length (take count rows) ≤ most
+few count most rows e =
+    let used : length (take count rows) ≡ min count (length rows) = length-take count rows in
+    let within : count ≤ most = leb-is count most e in
+    omega arith
+
+-- ---- accounts
+account-of : (acc : List Account) (a c : ℕ) → inBooks acc a c ≡ true → (x : Account) × List·Memᴰ x acc × (x .csd ≡ c)
+unfolding inBooks
+account-of [] a c e = absurd (true≢false (sym e))
+account-of (x ∷ acc) zero c e = (x, List·Memᴰ·head refl, eqb-is (x .csd) c e)
+account-of (x ∷ acc) (suc a) c e = let f = account-of acc a c e in (f .0, List·Memᴰ·tail (f .1), f .2)
+
+home-of : (r : Rows) → SoundTables r → (a c : ℕ) → inBooks (r .accounts) a c ≡ true → (isRow (r .csds) c ≡ true) × (external (r .csds) c ≡ false)
+unfolding accountsSound
+home-of r S a c e =
+    let f = account-of (r .accounts) a c e in
+    let j : Judged (Entry.accountRefusal (r .csds)) [] (f .0) = judged (Entry.accountRefusal (r .csds)) [] (r .accounts) (S .accounts) (f .0) (f .1) in
+    let n : NewAccount (r .csds) (j .after) (f .0) = accepted-account (r .csds) (j .after) (f .0) (j .accepted) in
+    (rw (f .2) at (n .csdRow), rw (f .2) at (n .inT2s))
+
+-- ---- pairs
+module _ (r : Rows) (b : List Pair) (p q : Pair) (m : List·Memᴰ q b) (n : NewPair r b p) where
+  twice-joined : p .investor ≡ q .investor → p .technical ≡ q .technical → ⊥
+  unfolding isJoined
+  twice-joined e f =
+      clash (isJoined b (p .investor) (p .technical))
+      (any-true (joins (p .investor) (p .technical)) b q m (rw (eqb-true (q .investor) (p .investor) (sym e), eqb-true (q .technical) (p .technical) (sym f))))
+      (n .unjoined)
+
+  twice-paired : (a : ℕ) → a ≢ noAccount → uses a p ≡ true → uses a q ≡ true → ⊥
+  unfolding isPaired
+  twice-paired a ne u v =
+      let paired : isPaired b a ≡ true = rw (eqb-false a noAccount ne, any-true (uses a) b q m v) in
+      elim (or-cases (eqb (p .mirror) a) (eqb (p .omnibus) a) u) [
+        | inl e ↦ clash (isPaired b a) paired (rw (eqb-is (p .mirror) a e) at (n .mirrorFree))
+        | inr e ↦ clash (isPaired b a) paired (rw (eqb-is (p .omnibus) a e) at (n .omnibusFree))
+      ]
+
+-- ---- links
+module _ (r : Rows) (b : List Link) (l k : Link) (m : List·Memᴰ k b) (n : NewLink r b l) (s : k .security ≡ l .security) (c : k .csd ≡ l .csd) where
+  linked : isLink (l .security) (l .csd) k ≡ true
+  linked = rw (eqb-true (k .security) (l .security) s, eqb-true (k .csd) (l .csd) c)
+
+  -- nothing is added beside an issuer link, and no issuer link beside another link
+  beside-issuer : (l .kind ≡ 0) ⊎ (k .kind ≡ 0) → ⊥
+  unfolding hasLink hasIssuer
+  beside-issuer e = go (n .facts .kind) e
+    where
+      go : (l .kind ≡ 0) ⊎ (l .kind ≡ 1) → (l .kind ≡ 0) ⊎ (k .kind ≡ 0) → ⊥
+      go (inl z) i = clash (hasLink b (l .security) (l .csd)) (any-true (isLink (l .security) (l .csd)) b k m linked) (n .noLink z)
+      go (inr z) (inl i) = omega arith
+      go (inr z) (inr i) = clash (hasIssuer b (l .security) (l .csd)) (any-true (isIssuer (l .security) (l .csd)) b k m (rw (linked, eqb-true (k .kind) 0 i))) (n .noIssuer z)
+
+  twice-default : l .kind ≡ 1 → k .kind ≡ 1 → l .flag ≡ 1 → ⊥
+  unfolding hasInvestor
+  twice-default e f g =
+      let later : hasInvestor b (l .security) (l .csd) ≡ true = any-true (isInvestor (l .security) (l .csd)) b k m (rw (linked, eqb-true (k .kind) 1 f)) in
+      true≢false (rw (later, eqb-true (l .flag) 1 g) at (n .flagFits e))
+
+  twice-technical : l .kind ≡ 1 → k .kind ≡ 1 → k .technical ≡ l .technical → l .technical ≢ noCsd → ⊥
+  unfolding hasLinkTo
+  twice-technical e f t ne =
+      let there : hasLinkTo b (l .security) (l .csd) (l .technical) ≡ true =
+      any-true (isLinkTo (l .security) (l .csd) (l .technical)) b k m (rw (linked, eqb-true (k .kind) 1 f, eqb-true (k .technical) (l .technical) t)) in
+      true≢false (rw (eqb-false (l .technical) noCsd ne, there) at (n .unentered))
+
+-- ---- the directory
+module _ (r : Rows) (S : SoundTables r) where
+  one-pair : (p q : Pair) → List·Memᴰ p (r .pairs) → List·Memᴰ q (r .pairs)
+      → ((b : List Pair) → List·Memᴰ q b → NewPair r b p → ⊥) → ((b : List Pair) → List·Memᴰ p b → NewPair r b q → ⊥) → p ≡ q
+  unfolding pairsSound
+  one-pair p q m n f g =
+      one-row (Entry.pairRefusal (r .csds) (r .accounts)) [] (r .pairs) (S .pairs) p q m n (λ b k e. f b k (accepted-pair r b p e)) (λ b k e. g b k (accepted-pair r b q e))
+
+  one-link : (l k : Link) → List·Memᴰ l (r .links) → List·Memᴰ k (r .links)
+      → ((b : List Link) → List·Memᴰ k b → NewLink r b l → ⊥) → ((b : List Link) → List·Memᴰ l b → NewLink r b k → ⊥) → l ≡ k
+  unfolding linksSound
+  one-link l k m n f g =
+      one-row (Entry.linkRefusal (r .csds) (r .securities) (r .accounts)) [] (r .links) (S .links) l k m n
+      (λ b i e. f b i (accepted-link r b l e)) (λ b i e. g b i (accepted-link r b k e))
+
+  pair-facts : (p : Pair) → List·Memᴰ p (r .pairs) → PairFacts r p
+  unfolding pairsSound
+  pair-facts p m =
+      let j = judged (Entry.pairRefusal (r .csds) (r .accounts)) [] (r .pairs) (S .pairs) p m in
+      accepted-pair r (j .after) p (j .accepted) .facts
+
+  link-facts : (l : Link) → List·Memᴰ l (r .links) → LinkFacts r l
+  unfolding linksSound
+  link-facts l m =
+      let j = judged (Entry.linkRefusal (r .csds) (r .securities) (r .accounts)) [] (r .links) (S .links) l m in
+      accepted-link r (j .after) l (j .accepted) .facts
+
+  -- a technical issuer is a row, and hex FF is none
+  technical-named : length (r .csds) ≤ csdLimit → (l : Link) → List·Memᴰ l (r .links) → l .kind ≡ 1 → l .technical ≢ noCsd
+  unfolding isRow
+  technical-named small l m e f =
+      let below : l .technical < length (r .csds) = ltb-is (l .technical) (length (r .csds)) (link-facts l m .investor e .technicalRow) in
+      omega arith
+
+pub sound-gives : (d : Directory) → sound d ≡ true → Facts (rowsOf d)
+unfolding sound
+sound-gives d e =
+    let r : Rows = rowsOf d in
+    let parts = and-both (withinLimits d) (soundRows r) e in
+    let L : WithinLimits d = limits d (parts .0) in
+    let S : SoundTables r = tables r (parts .1) in
+    let fewCsds : length (r .csds) ≤ csdLimit = few (d .csds .count) csdLimit (d .csds .rows) (L .csds) in
+    record {
+      fewCsds = fewCsds;
+      fewSecurities = few (d .securities .count) securityLimit (d .securities .rows) (L .securities);
+      fewAccounts = few (d .accounts .count) accountLimit (d .accounts .rows) (L .accounts);
+      fewPairs = few (d .pairs .count) pairLimit (d .pairs .rows) (L .pairs);
+      fewLinks = few (d .links .count) linkLimit (d .links .rows) (L .links);
+      homeRow = λ a c h. home-of r S a c h .0;
+      homes = λ a c h. home-of r S a c h .1;
+      pairs = pair-facts r S;
+      onePair = λ p q m n f g. one-pair r S p q m n (λ b i j. twice-joined r b p q i j f g) (λ b i j. twice-joined r b q p i j (sym f) (sym g));
+      apart = λ p q m n a ne u v. one-pair r S p q m n (λ b i j. twice-paired r b p q i j a ne u v) (λ b i j. twice-paired r b q p i j a ne v u);
+      links = link-facts r S;
+      oneIssuer = λ l k m n z s c. one-link r S l k m n (λ b i j. beside-issuer r b l k i j (sym s) (sym c) (inl z)) (λ b i j. beside-issuer r b k l i j s c (inr z));
+      oneDefault = λ l k m n x y f g s c. one-link r S l k m n (λ b i j. twice-default r b l k i j (sym s) (sym c) x y f) (λ b i j. twice-default r b k l i j s c y x g);
+      oneTechnical = λ l k m n x y s c t. one-link r S l k m n
+          (λ b i j. twice-technical r b l k i j (sym s) (sym c) x y (sym t) (technical-named r S fewCsds l m x))
+          (λ b i j. twice-technical r b k l i j s c y x t (technical-named r S fewCsds k n y));
+    }
