@@ -1,0 +1,5 @@
+pub mod Sides
+pub mod Walks
+pub mod Routes
+pub mod Steps
+pub mod Derivation
