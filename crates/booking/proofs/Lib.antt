@@ -1,0 +1,11 @@
+pub mod Tests
+pub mod Integers
+pub mod Sizes
+pub mod Bounds
+pub mod Sequence
+pub mod Booked
+pub mod Paid
+pub mod Summed
+pub mod Refused
+pub mod Settled
+pub mod Moving

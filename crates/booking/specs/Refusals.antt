@@ -1,0 +1,14 @@
+-- The refusals of the calls that book, from what each test found.
+use Prim.Native.Nat.{ℕ}
+use mathlib.Core.Bool.{Bool, cond}
+use mathlib.Core.List.{[], _∷_}
+use Rattle.rules.specs.Tests.{_when_, lowest}
+
+-- 20, 21, 22
+abbrev pub bookRefusal : Bool → Bool → Bool → ℕ
+bookRefusal units cash beyond = lowest (20 when units ∷ 21 when cash ∷ 22 when beyond ∷ [])
+
+-- 6, 7, 10, the number that a missing chain gives, and then what booking gives
+abbrev pub callRefusal : Bool → Bool → Bool → Bool → ℕ → ℕ → ℕ
+callRefusal unknown range kind unchained number booking =
+    cond unknown 6 (cond range 7 (cond kind 10 (cond unchained number booking)))

@@ -1,0 +1,54 @@
+// "The lowest number that applies is given", of the calls that book.
+use chain::halves::LIMIT;
+ghost use mathlib.Core.Path.{_≡_};
+ghost use Rattle.rules.specs.Booking.{outOfRange};
+ghost use Rattle.booking.specs.Refusals.{bookRefusal, callRefusal};
+
+// 7 of a quantity, and of an amount paid in or out: "1 to 10^15".
+pub fn out_of_range(n: u64) -> bool
+    ensures { λ r. ⌜ r ≡ outOfRange n ⌝ }
+{
+    (n == 0) | (LIMIT < n)
+}
+
+// The lowest of 20, 21 and 22, or 0.
+pub fn book_refusal(units: bool, cash: bool, beyond: bool) -> u8
+    ensures { λ r. ⌜ r ≡ bookRefusal units cash beyond ⌝ }
+{
+    if units {
+        return 20;
+    }
+    if cash {
+        return 21;
+    }
+    if beyond {
+        return 22;
+    }
+    0
+}
+
+// The lowest of 6, 7, 10 and the number that a missing chain gives, else what booking gives.
+pub fn call_refusal(
+    unknown: bool,
+    range: bool,
+    kind: bool,
+    unchained: bool,
+    number: u8,
+    booking: u8,
+) -> u8
+    ensures { λ r. ⌜ r ≡ callRefusal unknown range kind unchained number booking ⌝ }
+{
+    if unknown {
+        return 6;
+    }
+    if range {
+        return 7;
+    }
+    if kind {
+        return 10;
+    }
+    if unchained {
+        return number;
+    }
+    booking
+}
