@@ -1,0 +1,111 @@
+-- A log of calls of the desk's functions is one of demand 3's: a call's answer and store go by what its function is handed alone.
+use Prim.Native.Nat.{ℕ, zero, suc}
+use mathlib.Core.Path.{_≡_, refl, ap, _∙_}
+use mathlib.Core.List.{List, []}
+use lib.IntN.{ℤ}
+use Rattle.rules.specs.declared.Half.{Half}
+use Rattle.rules.specs.declared.Step.{Step}
+use Rattle.rules.specs.declared.Answer.{Answer}
+use Rattle.rules.specs.declared.Entered.{Entered}
+use Rattle.rules.specs.declared.Reply.{Reply}
+use Rattle.rules.specs.Tests.{lowest}
+use Rattle.rules.specs.Directory.{Row}
+use Rattle.rules.specs.Chain.{stepLimit}
+use Rattle.rules.specs.Booking.{Way}
+use Rattle.rules.specs.Calls.{Store, Call, enter, move, pay, settle, derive, outcome, misfit, deskConditions, desk}
+use Rattle.rules.specs.Demands.{begins, calls}
+use Rattle.rules.proofs.Theorems.{demand3}
+use Rattle.desk.specs.Outcomes.{holding, derivationOn, blanks}
+use Rattle.desk.specs.Logs as desk-log
+use Rattle.desk.specs.Logs.{Made, entered, moved, paid, settled, settledByValue, derived, derivedByValue, DeskLogs, DeskBalances}
+
+-- what demand 3 asks of a call of a log
+pub record Asked (st : Store) (c : Call) (r : Answer) (left : Store) : Type 0 where
+  pub answer : r ≡ desk c st .answer
+  pub store : left ≡ desk c st .store
+
+module _ (st : Store) where
+  -- ---- each call by its refusal's number, on what its function is handed and on the whole store
+  entry-answer : (n : ℕ) (x : Row) → outcome n (enter x) (holding (st .directory) [] []) .answer ≡ outcome n (enter x) st .answer
+  entry-answer zero x = refl
+  entry-answer (suc n) x = refl
+
+  entry-store : (n : ℕ) (x : Row) → holding (outcome n (enter x) (holding (st .directory) [] []) .store .directory) (st .positions) (st .cash) ≡ outcome n (enter x) st .store
+  entry-store zero x = refl
+  entry-store (suc n) x = refl
+
+  movement-answer : (n : ℕ) (w : Way) (a s q : ℕ) → outcome n (move w a s q) (holding (st .directory) (st .positions) []) .answer ≡ outcome n (move w a s q) st .answer
+  movement-answer zero w a s q = refl
+  movement-answer (suc n) w a s q = refl
+
+  movement-store : (n : ℕ) (w : Way) (a s q : ℕ)
+      → holding (st .directory) (outcome n (move w a s q) (holding (st .directory) (st .positions) []) .store .positions) (st .cash) ≡ outcome n (move w a s q) st .store
+  movement-store zero w a s q = refl
+  movement-store (suc n) w a s q = refl
+
+  payment-answer : (n : ℕ) (w : Way) (a m : ℕ) → outcome n (pay w a m) (holding (st .directory) [] (st .cash)) .answer ≡ outcome n (pay w a m) st .answer
+  payment-answer zero w a m = refl
+  payment-answer (suc n) w a m = refl
+
+  payment-store : (n : ℕ) (w : Way) (a m : ℕ)
+      → holding (st .directory) (st .positions) (outcome n (pay w a m) (holding (st .directory) [] (st .cash)) .store .cash) ≡ outcome n (pay w a m) st .store
+  payment-store zero w a m = refl
+  payment-store (suc n) w a m = refl
+
+  settlement-directory : (n : ℕ) (h g : Half) (lent : List Step)
+      → holding (st .directory) (outcome n (settle h g lent) st .store .positions) (outcome n (settle h g lent) st .store .cash) ≡ outcome n (settle h g lent) st .store
+  settlement-directory zero h g lent = refl
+  settlement-directory (suc n) h g lent = refl
+
+  derivation-answer : (n : ℕ) (h g : Half) (lent : List Step) → outcome n (derive h g lent) (holding (st .directory) [] []) .answer ≡ outcome n (derive h g lent) st .answer
+  derivation-answer zero h g lent = refl
+  derivation-answer (suc n) h g lent = refl
+
+  derivation-store : (n : ℕ) (h g : Half) (lent : List Step) → st ≡ outcome n (derive h g lent) st .store
+  derivation-store zero h g lent = refl
+  derivation-store (suc n) h g lent = refl
+
+  asked-settlement : (h g : Half) (lent : List Step) (r : Answer) (p c : List ℤ) → r ≡ desk (settle h g lent) st .answer
+      → p ≡ desk (settle h g lent) st .store .positions → c ≡ desk (settle h g lent) st .store .cash → Asked st (settle h g lent) r (holding (st .directory) p c)
+  unfolding desk
+  asked-settlement h g lent r p c a e f = record { answer = a; store = rw (e, f) (settlement-directory (lowest (deskConditions (settle h g lent) st)) h g lent) }
+
+  asked-derivation : (h g : Half) (lent : List Step) (r : Answer) → r ≡ derivationOn (st .directory) lent h g .answer → Asked st (derive h g lent) r st
+  unfolding desk misfit
+  asked-derivation h g lent r e =
+      let n = lowest (deskConditions (derive h g lent) st) in
+      record { answer = e ∙ derivation-answer n h g lent; store = derivation-store n h g lent }
+
+  asked : (c : Call) (r : Answer) (left : Store) → Made st c r left → Asked st c r left
+  unfolding desk misfit
+  asked c r left (entered x made e) =
+      let n = lowest (deskConditions (enter x) st) in
+      record {
+        answer = ap (λ (y : Entered). y .answer) e ∙ entry-answer n x;
+        store = ap (λ (y : Entered). holding (y .directory) (st .positions) (st .cash)) e ∙ entry-store n x;
+      }
+  asked c r left (moved w a s q x p e) =
+      let n = lowest (deskConditions (move w a s q) st) in
+      record {
+        answer = e .0 ∙ movement-answer n w a s q;
+        store = ap (λ (y : List ℤ). holding (st .directory) y (st .cash)) (e .1) ∙ movement-store n w a s q;
+      }
+  asked c r left (paid w a m x k e) =
+      let n = lowest (deskConditions (pay w a m) st) in
+      record {
+        answer = e .0 ∙ payment-answer n w a m;
+        store = ap (λ (y : List ℤ). holding (st .directory) (st .positions) y) (e .1) ∙ payment-store n w a m;
+      }
+  asked c r left (settled h g lent x p k steps e) = asked-settlement h g lent x p k (e .0) (e .1) (e .2)
+  asked c r left (settledByValue h g x p k e) = asked-settlement h g (blanks stepLimit) (x .answer) p k (ap (λ (y : Reply). y .answer) (e .0)) (e .1) (e .2)
+  asked c r left (derived h g lent x steps e) = asked-derivation h g lent x (e .0)
+  asked c r left (derivedByValue h g x e) = asked-derivation h g (blanks stepLimit) (x .answer) (ap (λ (y : Reply). y .answer) e)
+
+pub desk-logs : DeskLogs
+desk-logs items st (desk-log.begins e) = begins e
+desk-logs items st (desk-log.calls {items = before} {st = handed} {c = c} {r = r} l m) =
+    let a = asked handed c r st m in
+    calls c r st (desk-logs before handed l) (a .answer) (a .store)
+
+pub desk-balances : DeskBalances
+desk-balances items st l = demand3 .logs items st (desk-logs items st l)

@@ -1,0 +1,62 @@
+-- Logs of calls of the desk's functions: what each function's contract says is what demand 3 asks of a log. Assumes nothing.
+use Prim.Native.Nat.{ℕ}
+use mathlib.Core.Path.{_≡_}
+use mathlib.Core.List.{List, [], _∷_}
+use lib.IntN.{ℤ}
+use Rattle.rules.specs.declared.Half.{Half}
+use Rattle.rules.specs.declared.Step.{Step}
+use Rattle.rules.specs.declared.Answer.{Answer}
+use Rattle.rules.specs.declared.Entered.{Entered}
+use Rattle.rules.specs.declared.Reply.{Reply}
+use Rattle.rules.specs.Directory.{Row}
+use Rattle.rules.specs.Chain.{stepLimit}
+use Rattle.rules.specs.Booking.{Way}
+use Rattle.rules.specs.Calls.{Store, Call, enter, move, pay, settle, derive, Item, item, emptyStore}
+use Rattle.rules.specs.Demands.{Log, Balanced}
+use Rattle.desk.specs.Outcomes.{holding, enteredOn, movementOn, paymentOn, settlementOn, derivationOn, blanks, replyOf}
+
+-- A call of a desk's function on the store st: the call, the answer r and the store that it left. Each case has the words of the
+-- functions' `ensures`; what a function is not handed stays as it is.
+pub data Made (st : Store) : Call → Answer → Store → Type 0 where
+  -- enter_csd, enter_security, enter_account, enter_pair, enter_link
+  entered : (x : Row) (r : Entered) → r ≡ enteredOn (st .directory) x → Made st (enter x) (r .answer) (holding (r .directory) (st .positions) (st .cash))
+  -- bring_in, take_out
+  moved : (w : Way) (a s q : ℕ) (r : Answer) (p : List ℤ)
+      → (r ≡ movementOn (st .directory) (st .positions) w a s q .answer) × (p ≡ movementOn (st .directory) (st .positions) w a s q .store .positions)
+      → Made st (move w a s q) r (holding (st .directory) p (st .cash))
+  -- pay_in, pay_out
+  paid : (w : Way) (a m : ℕ) (r : Answer) (c : List ℤ)
+      → (r ≡ paymentOn (st .directory) (st .cash) w a m .answer) × (c ≡ paymentOn (st .directory) (st .cash) w a m .store .cash)
+      → Made st (pay w a m) r (holding (st .directory) (st .positions) c)
+  -- settle
+  settled : (h g : Half) (lent : List Step) (r : Answer) (p c : List ℤ) (steps : List Step)
+      → (r ≡ settlementOn (st .directory) (st .positions) (st .cash) lent h g .answer)
+      × (p ≡ settlementOn (st .directory) (st .positions) (st .cash) lent h g .store .positions)
+      × (c ≡ settlementOn (st .directory) (st .positions) (st .cash) lent h g .store .cash)
+      × (steps ≡ settlementOn (st .directory) (st .positions) (st .cash) lent h g .steps)
+      → Made st (settle h g lent) r (holding (st .directory) p c)
+  -- settle_by_value
+  settledByValue : (h g : Half) (r : Reply) (p c : List ℤ)
+      → (r ≡ replyOf (settlementOn (st .directory) (st .positions) (st .cash) (blanks stepLimit) h g))
+      × (p ≡ settlementOn (st .directory) (st .positions) (st .cash) (blanks stepLimit) h g .store .positions)
+      × (c ≡ settlementOn (st .directory) (st .positions) (st .cash) (blanks stepLimit) h g .store .cash)
+      → Made st (settle h g (blanks stepLimit)) (r .answer) (holding (st .directory) p c)
+  -- derive
+  derived : (h g : Half) (lent : List Step) (r : Answer) (steps : List Step)
+      → (r ≡ derivationOn (st .directory) lent h g .answer) × (steps ≡ derivationOn (st .directory) lent h g .steps)
+      → Made st (derive h g lent) r st
+  -- derive_by_value
+  derivedByValue : (h g : Half) (r : Reply) → r ≡ replyOf (derivationOn (st .directory) (blanks stepLimit) h g) → Made st (derive h g (blanks stepLimit)) (r .answer) st
+
+-- "Each call is handed the directory that the last one returned and the positions and cash that it left"
+pub data DeskLog : List Item → Store → Type 0 where
+  begins : {st : Store} → st ≡ emptyStore → DeskLog [] st
+  calls : {items : List Item} {st : Store} {c : Call} {r : Answer} {left : Store} → DeskLog items st → Made st c r left → DeskLog (item c r st left ∷ items) left
+
+-- such a log is one of demand 3's
+abbrev pub DeskLogs : Type 0
+DeskLogs = (items : List Item) (st : Store) → DeskLog items st → Log items st
+
+-- so demand 3 holds of it
+abbrev pub DeskBalances : Type 0
+DeskBalances = (items : List Item) (st : Store) → DeskLog items st → Balanced items st

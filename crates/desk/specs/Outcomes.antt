@@ -1,0 +1,69 @@
+-- What each of the desk's functions answers and leaves: the outcome of the rules' call on what the function is handed. A list that a
+-- function is not handed is empty here; proofs/Logs.antt says that it counts for nothing. Assumes nothing.
+use Prim.Native.Nat.{ℕ}
+use mathlib.Core.Bool.{Bool, not}
+use mathlib.Core.List.{List, [], _∷_}
+use lib.IntN.{ℤ}
+use lib.ListN.{length, replicate, take}
+use Rattle.rules.specs.declared.Directory.{Directory}
+use Rattle.rules.specs.declared.Half.{Half}
+use Rattle.rules.specs.declared.Step.{Step}
+use Rattle.rules.specs.declared.Steps.{Steps}
+use Rattle.rules.specs.declared.Reply.{Reply}
+use Rattle.rules.specs.declared.Answer.the-variants.{Refused}
+use Rattle.rules.specs.declared.Entered.{Entered}
+use Rattle.rules.specs.Tests.{_when_, lowest}
+use Rattle.rules.specs.Directory.{Row, sound}
+use Rattle.rules.specs.Chain.{step, stepLimit}
+use Rattle.rules.specs.Booking.{Way}
+use Rattle.rules.specs.Calls.{Store, Outcome, enter, move, pay, settle, derive, desk, countOf, written}
+
+-- the store that a function is handed
+abbrev pub holding : Directory → List ℤ → List ℤ → Store
+holding d p c = record { directory = d; positions = p; cash = c }
+
+-- an entry of a row
+abbrev pub entryOn : Directory → Row → Outcome
+entryOn d x = desk (enter x) (holding d [] [])
+
+-- a bring-in or take-out: the way, the account, the security and the quantity
+abbrev pub movementOn : Directory → List ℤ → Way → ℕ → ℕ → ℕ → Outcome
+movementOn d p w a s q = desk (move w a s q) (holding d p [])
+
+-- a pay-in or pay-out: the way, the account and the amount
+abbrev pub paymentOn : Directory → List ℤ → Way → ℕ → ℕ → Outcome
+paymentOn d c w a m = desk (pay w a m) (holding d [] c)
+
+-- a settlement that is lent positions, cash and steps; the first half delivers
+abbrev pub settlementOn : Directory → List ℤ → List ℤ → List Step → Half → Half → Outcome
+settlementOn d p c lent h g = desk (settle h g lent) (holding d p c)
+
+-- a derivation that is lent steps
+abbrev pub derivationOn : Directory → List Step → Half → Half → Outcome
+derivationOn d lent h g = desk (derive h g lent) (holding d [] [])
+
+-- 3 where a list that a call is lent does not fit, else 4 where the directory is not sound, else 0
+abbrev pub early : Bool → Directory → ℕ
+early misfit d = lowest (3 when misfit ∷ 4 when not (sound d) ∷ [])
+
+-- what an entry answers, and the directory after it
+abbrev pub enteredOn : Directory → Row → Entered
+enteredOn d x = record { answer = entryOn d x .answer; directory = entryOn d x .store .directory }
+
+-- ---- steps by value
+
+-- a step list of which the length alone counts
+abbrev pub blanks : ℕ → List Step
+blanks n = replicate n (step 0 0 0)
+
+-- steps by value: their number, and their rows on 16 blank ones
+abbrev pub byValue : List Step → Steps
+byValue xs = record { count = length xs; rows = written xs (blanks stepLimit) }
+
+-- a refusal has no step
+abbrev pub refusal : ℕ → Reply
+refusal n = record { answer = Refused n; steps = byValue [] }
+
+-- an outcome by value: its answer, and the K steps that a lent list then starts with
+abbrev pub replyOf : Outcome → Reply
+replyOf o = record { answer = o .answer; steps = byValue (take (countOf (o .answer)) (o .steps)) }
