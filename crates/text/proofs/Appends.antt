@@ -1,0 +1,98 @@
+-- Laws of appended text: nothing, one byte, one text after another, and what holds where the buffer has room.
+use mathlib.Core.Path.{_≡_, refl, sym, _∙_, ap}
+use Prim.Native.Nat.{ℕ, zero, suc, _+_, _≤_, _<_, min}
+use native.Mathlib.Numerals.{add-one}
+use native.Mathlib.Decide.{decLe}
+use native.Mathlib.Omega.{arith}
+use mathlib.Core.List.{List, [], _∷_, _++_, append-assoc, append-nil}
+use lib.ListN.{length, take, set, getD, length-append, length-take, length-set}
+use lib.Seq.{take-suc, take-suc-set, take-all, take-length, take-append-seam, length-take-le}
+use Rattle.text.specs.Appended.{Appended, shown}
+
+-- ---- the buffer's end
+
+-- what was cut off before is cut off again
+cut-cut : (n : ℕ) (x y : List ℕ) → take n (take n x ++ y) ≡ take n (x ++ y)
+cut-cut zero x y = refl
+cut-cut (suc n) [] y = refl
+cut-cut (suc n) (a ∷ x) y = ap (λ (l : List ℕ). a ∷ l) (cut-cut n x y)
+
+-- a text that fits is not cut
+whole : (out : List ℕ) (at : ℕ) (text : List ℕ) → at + length text ≤ length out → shown out at text ≡ take at out ++ text
+whole out at text h = take-all (length out) (take at out ++ text) (omega (arith, length-append (take at out) text, length-take at out))
+
+-- past the end nothing is written
+full : (out : List ℕ) (at : ℕ) (text : List ℕ) → length out ≤ at → shown out at text ≡ out
+full out at text h = ap (λ (l : List ℕ). take (length out) (l ++ text)) (take-all at out h) ∙ take-append-seam out text
+
+pub past-end : (out : List ℕ) (at : ℕ) (text : List ℕ) → length out ≤ at → Appended out at out (length out) text
+past-end out at text h =
+    record { ends = sym (ap length (full out at text h)); front = take-length out ∙ sym (full out at text h); same = refl }
+
+-- ---- where there is room
+
+-- the text is longer by all of the new text
+pub record Fitted (out : List ℕ) (at : ℕ) (out′ : List ℕ) (end : ℕ) (text : List ℕ) : Type 0 where
+  pub ends : end ≡ at + length text
+  pub front : take end out′ ≡ take at out ++ text
+  pub same : length out′ ≡ length out
+
+ends-there : (out : List ℕ) (at : ℕ) (text : List ℕ) → at + length text ≤ length out → length (shown out at text) ≡ at + length text
+ends-there out at text h =
+    omega (arith, ap length (whole out at text h), length-append (take at out) text, length-take-le at out (omega arith))
+
+module _ {out out′ text : List ℕ} {at end : ℕ} where
+  pub fits : Appended out at out′ end text → at + length text ≤ length out → Fitted out at out′ end text
+  fits a h = record { ends = a .ends ∙ ends-there out at text h; front = a .front ∙ whole out at text h; same = a .same }
+
+  fitted : Fitted out at out′ end text → at + length text ≤ length out → Appended out at out′ end text
+  fitted a h = record { ends = a .ends ∙ sym (ends-there out at text h); front = a .front ∙ sym (whole out at text h); same = a .same }
+
+-- nothing appended; a place past the buffer's end is the buffer's end
+pub no-bytes : (out : List ℕ) (at end : ℕ) → end ≡ min at (length out) → Appended out at out end []
+no-bytes out at end e = go (decLe at (length out))
+  where
+    go : Dec (at ≤ length out) → Appended out at out end []
+    go (yes h) = let p : end ≡ at = omega arith in rw p (fitted (record { ends = omega arith; front = sym (append-nil (take at out)); same = refl }) (omega arith))
+    go (no h) = let p : end ≡ length out = omega arith in rw p (past-end out at [] (omega arith))
+
+pub one-byte : (out : List ℕ) (at b : ℕ) → at < length out → Appended out at (set out at b) (at + 1) (b ∷ [])
+one-byte out at b h =
+    fitted (record {
+      ends = refl;
+      front = ap (λ (m : ℕ). take m (set out at b)) (add-one at) ∙ take-suc-set out at b h;
+      same = length-set out at b;
+    }) (omega arith)
+
+-- ---- one text after another
+
+-- what is still to come stands behind it: the law of a loop that appends one text after another
+pub followed : {out out′ text : List ℕ} {at end : ℕ} (rest : List ℕ) → Appended out at out′ end text
+    → take (length out) (take end out′ ++ rest) ≡ take (length out) (take at out ++ (text ++ rest))
+followed {out} {out′} {text} {at} {end} rest a =
+    rw (a .front) (cut-cut (length out) (take at out ++ text) rest ∙ ap (take (length out)) (append-assoc (take at out) text rest))
+
+pub then : {out out₁ out₂ : List ℕ} {at mid end : ℕ} {x y : List ℕ} → Appended out at out₁ mid x → Appended out₁ mid out₂ end y
+    → Appended out at out₂ end (x ++ y)
+then {out} {out₁} {out₂} {at} {mid} {end} {x} {y} a b =
+    let e : shown out₁ mid y ≡ shown out at (x ++ y) = rw (a .same) (followed y a) in
+    record { ends = b .ends ∙ ap length e; front = b .front ∙ e; same = b .same ∙ a .same }
+
+-- the same text by another name
+pub named : {out out′ : List ℕ} {at end : ℕ} {x y : List ℕ} → x ≡ y → Appended out at out′ end x → Appended out at out′ end y
+named e a = rw e at a
+
+-- one byte more of a word
+pub more : {out out₁ out₂ : List ℕ} {at mid end : ℕ} (word : List ℕ) (i : ℕ) → i < length word
+    → Appended out at out₁ mid (take i word) → Appended out₁ mid out₂ end (getD word i 0 ∷ []) → Appended out at out₂ end (take (i + 1) word)
+more word i h a b =
+    let e : take i word ++ (getD word i 0 ∷ []) ≡ take (i + 1) word = rw add-one (sym (take-suc word i 0 h)) in
+    named e (then a b)
+
+-- ---- the front of the buffer
+
+-- it can be lent as a part of the buffer
+pub front-of : {out out′ text : List ℕ} {at end : ℕ} → Appended out at out′ end text → (end ≤ length out′) × (end ≡ length (take end out′))
+front-of {out} {out′} {text} {at} {end} a =
+    let e : end ≡ length (take end out′) = a .ends ∙ sym (ap length (a .front)) in
+    (omega (arith, length-take end out′), e)

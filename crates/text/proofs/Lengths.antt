@@ -1,0 +1,68 @@
+-- How long the lines are: by their parts, and at most so many bytes where the numbers in them are small.
+use mathlib.Core.Path.{_≡_, refl}
+use Prim.Native.Nat.{ℕ, suc, _+_, _*_, _^_, _≤_, _<_}
+use native.Mathlib.Nat.{mul-suc}
+use native.Mathlib.Omega.{arith}
+use mathlib.Core.List.{List, [], _∷_, List·Memᴰ, List·Memᴰ·head, List·Memᴰ·tail}
+use lib.IntN.{ℤ, pos, negsuc}
+use lib.ListN.{length, take, length-append, length-take}
+use Rattle.rules.specs.declared.Step.{Step}
+use Rattle.rules.specs.declared.Units.{Units}
+use Rattle.rules.specs.declared.Cents.{Cents}
+use Rattle.rules.specs.declared.Answer.{Answer}
+use Rattle.rules.specs.declared.Answer.the-variants.{Accepted, Booked, Chained, Refused}
+use Rattle.rules.specs.Calls.{numberOf, countOf}
+use Rattle.rules.specs.Stream.{decimal, signed, stepLine, stepLines, answerText, said, totalLine, cashLine}
+use Rattle.text.proofs.Digits.{few-digits, digits-at-most}
+
+-- ---- numbers
+
+pub short-decimal : (m n : ℕ) → n < 10 ^ suc m → length (decimal n) ≤ suc m
+short-decimal m n h = few-digits 20 m n h
+
+pub signed-long : (z : ℤ) → length (signed z) ≤ 21
+unfolding signed
+signed-long (pos n) = omega (arith, digits-at-most 20 n)
+signed-long (negsuc n) = omega (arith, digits-at-most 20 (suc n))
+
+-- ---- steps
+
+pub step-long : (x : Step)
+    → length (stepLine x) ≡ 2 + (length (decimal (x .csd)) + (1 + (length (decimal (x .debited)) + (1 + (length (decimal (x .credited)) + 1)))))
+unfolding stepLine
+step-long x = simp length-append (omega arith)
+
+-- a step of numbers of 8 and 16 bits
+pub short-step : (x : Step) → x .csd < 256 → x .debited < 65_536 → x .credited < 65_536 → length (stepLine x) ≤ 18
+short-step x a b c =
+    omega (arith, step-long x, short-decimal 2 (x .csd) (omega arith), short-decimal 4 (x .debited) (omega arith), short-decimal 4 (x .credited) (omega arith))
+
+pub short-steps : (b : ℕ) (xs : List Step) → ((x : Step) → List·Memᴰ x xs → length (stepLine x) ≤ b) → length (stepLines xs) ≤ b * length xs
+unfolding stepLines
+short-steps b [] h = omega arith
+short-steps b (x ∷ xs) h =
+    omega (arith, h x (List·Memᴰ·head refl), short-steps b xs (λ y m. h y (List·Memᴰ·tail m)), length-append (stepLine x) (stepLines xs), mul-suc b (length xs))
+
+-- ---- a command
+
+pub short-answer : (a : Answer) → countOf a < 100 → numberOf a < 100 → length (answerText a) ≤ 9
+unfolding answerText
+short-answer Accepted k n = omega arith
+short-answer (Booked i) k n = omega (arith, short-decimal 1 i (omega arith))
+short-answer (Chained i) k n = omega (arith, short-decimal 1 i (omega arith))
+short-answer (Refused i) k n = omega (arith, short-decimal 1 i (omega arith))
+
+pub said-long : (n : ℕ) (a : Answer) (xs : List Step)
+    → length (said n a xs) ≡ length (decimal n) + (1 + (length (answerText a) + (1 + length (stepLines (take (countOf a) xs)))))
+unfolding said
+said-long n a xs = simp length-append (omega arith)
+
+-- ---- the end
+
+pub short-total : (isin : List ℕ) (z : Units) → length (totalLine isin z) ≤ 41
+unfolding totalLine
+short-total isin z = simp length-append (omega (arith, length-take 12 isin, signed-long (z .0)))
+
+pub short-cash : (z : Cents) → length (cashLine z) ≤ 27
+unfolding cashLine
+short-cash z = simp length-append (omega (arith, signed-long (z .0)))

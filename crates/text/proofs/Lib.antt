@@ -1,0 +1,5 @@
+pub mod Appends
+pub mod Digits
+pub mod Signs
+pub mod Said
+pub mod Lengths

@@ -1,0 +1,85 @@
+// Words and numbers.
+ghost use mathlib.Core.Path.{_≡_};
+ghost use Prim.Native.Nat.{min};
+ghost use mathlib.Core.List.{_∷_, [], _++_};
+ghost use lib.IntN.{natAbs};
+ghost use Rattle.rules.specs.Stream.{digits, decimal, signed};
+ghost use Rattle.text.specs.Appended.{Appended};
+
+pub(crate) fn lesser(a: usize, b: usize) -> usize
+    ensures { λ r. ⌜ r ≡ min a b ⌝ }
+{
+    if a < b { a } else { b }
+}
+
+fn put_byte(out: &mut [u8], at: usize, byte: u8) -> usize
+    ensures { λ r. ⌜ Appended (now (out .entry)) at (now (out .exit)) r (byte ∷ []) ⌝ }
+{
+    if out.len() <= at {
+        return out.len();
+    }
+    out[at] = byte;
+    at + 1
+}
+
+pub fn put_word(out: &mut [u8], at: usize, word: &[u8]) -> usize
+    ensures { λ r. ⌜ Appended (now (out .entry)) at (now (out .exit)) r (now (word .entry)) ⌝ }
+{
+    let mut end = lesser(at, out.len());
+    let mut i: usize = 0;
+    while i < word.len() {
+        end = put_byte(out, end, word[i]);
+        i += 1;
+    }
+    end
+}
+
+// The decimal digits of n, at most k of them. The last digit stands behind those of a tenth of n.
+fn put_digits(out: &mut [u8], at: usize, n: u64, k: usize) -> usize
+    ensures { λ r. ⌜ Appended (now (out .entry)) at (now (out .exit)) r (digits k n) ⌝ }
+{
+    if k == 0 {
+        return lesser(at, out.len());
+    }
+    let digit = (n % 10) as u8 + b'0';
+    if n < 10 {
+        return put_byte(out, at, digit);
+    }
+    let before = put_digits(out, at, n / 10, k - 1);
+    put_byte(out, before, digit)
+}
+
+// 20 digits are enough for any number of 64 bits.
+pub fn put_decimal(out: &mut [u8], at: usize, n: u64) -> usize
+    ensures { λ r. ⌜ Appended (now (out .entry)) at (now (out .exit)) r (decimal n) ⌝ }
+{
+    put_digits(out, at, n, 20)
+}
+
+// A word, and a number right behind it.
+pub fn put_counted(out: &mut [u8], at: usize, word: &[u8], n: u64) -> usize
+    ensures { λ r. ⌜ Appended (now (out .entry)) at (now (out .exit)) r (now (word .entry) ++ decimal n) ⌝ }
+{
+    let behind = put_word(out, at, word);
+    put_decimal(out, behind, n)
+}
+
+// The number's distance from 0, for the smallest number too.
+fn magnitude(v: i64) -> u64
+    ensures { λ r. ⌜ r ≡ natAbs v ⌝ }
+{
+    if v < 0 {
+        ((0 - (v + 1)) as u64) + 1
+    } else {
+        v as u64
+    }
+}
+
+pub fn put_signed(out: &mut [u8], at: usize, v: i64) -> usize
+    ensures { λ r. ⌜ Appended (now (out .entry)) at (now (out .exit)) r (signed v) ⌝ }
+{
+    if v < 0 {
+        return put_counted(out, at, b"-", magnitude(v));
+    }
+    put_decimal(out, at, magnitude(v))
+}

@@ -1,0 +1,20 @@
+-- `wire::operands::decode_move` meets its contract: each field by its own read. Assumes nothing.
+use borrow.Author.Needs.{needs}
+use Rattle.wire.proofs.operands.decode_move.Statement.{statement}
+use Rattle.wire.proofs.operands.decode_move.Tie as tie
+
+two-bytes-requires : tie.Need-two-bytes-requires
+two-bytes-requires c κs = search needs
+
+one-byte-requires : tie.Need-one-byte-requires
+one-byte-requires c κs = search needs
+
+eight-bytes-requires : tie.Need-eight-bytes-requires
+eight-bytes-requires c κs = search needs
+
+returns : tie.Need-returns
+returns c = rw (c .before .before .two-bytes .ensures, c .before .one-byte .ensures, c .eight-bytes .ensures)
+
+pub decode-move-spec : {M : Type 1} → statement M
+decode-move-spec =
+    tie.close (tie.spec two-bytes-requires one-byte-requires eight-bytes-requires returns)

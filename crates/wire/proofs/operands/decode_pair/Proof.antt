@@ -1,0 +1,29 @@
+-- `wire::operands::decode_pair` meets its contract: each field by its own read. Assumes nothing.
+use borrow.Author.Needs.{needs}
+use Rattle.wire.proofs.operands.decode_pair.Statement.{statement}
+use Rattle.wire.proofs.operands.decode_pair.Tie as tie
+
+one-byte-requires : tie.Need-one-byte-requires
+one-byte-requires c κs = search needs
+
+one-byte-requires-2 : tie.Need-one-byte-requires-2
+one-byte-requires-2 c κs = search needs
+
+two-bytes-requires : tie.Need-two-bytes-requires
+two-bytes-requires c κs = search needs
+
+two-bytes-requires-2 : tie.Need-two-bytes-requires-2
+two-bytes-requires-2 c κs = search needs
+
+returns : tie.Need-returns
+returns c = rw (c .before .before .before .one-byte .ensures, c .before .before .one-byte2 .ensures, c .before .two-bytes .ensures, c .two-bytes2 .ensures)
+
+pub decode-pair-spec : {M : Type 1} → statement M
+decode-pair-spec =
+    tie.close
+    (tie.spec
+    one-byte-requires
+    one-byte-requires-2
+    two-bytes-requires
+    two-bytes-requires-2
+    returns)

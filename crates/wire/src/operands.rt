@@ -1,0 +1,206 @@
+// Operands, "big-endian of fixed widths". A decoder is handed the part of the input that starts at its command's operands; a byte that the part
+// does not have reads as 0.
+use rules::Account;
+use rules::Csd;
+use rules::Half;
+use rules::Link;
+use rules::Pair;
+use rules::Security;
+ghost use mathlib.Core.Path.{_≡_};
+ghost use Prim.Native.Nat.{_+_, _^_, _≤_, _<_};
+ghost use lib.ListN.{length, getD};
+ghost use Rattle.rules.specs.Directory.{accountRow, pairRow, linkRow};
+ghost use Rattle.rules.specs.Stream.{numberAt, accountAt, pairAt, linkAt, halfAt};
+ghost use Rattle.wire.specs.Operands.{paddedAt, csdIn, securityIn, moveIn, paymentIn};
+
+// The operands of 06 and 07.
+pub struct Move {
+    pub account: u16,
+    pub security: u8,
+    pub quantity: u64,
+}
+
+// The operands of 08 and 09.
+pub struct Payment {
+    pub account: u16,
+    pub amount: u64,
+}
+
+fn byte_at(operands: &[u8], at: usize) -> u8
+    ensures { λ r. ⌜ r ≡ getD (now (operands .entry)) at 0 ⌝ }
+{
+    if at < operands.len() { operands[at] } else { 0 }
+}
+
+fn wide(x: u8) -> u64
+    ensures { λ r. ⌜ r ≡ x ⌝ }
+{
+    x as u64
+}
+
+// The number of the `width` bytes from index `at` on.
+fn number_at(operands: &[u8], at: usize, width: usize) -> u64
+    requires { ⌜ (width ≤ 8) × (at < 256) ⌝ }
+    ensures value { λ r. ⌜ r ≡ numberAt (now (operands .entry)) at width ⌝ }
+    ensures below { λ r. ⌜ r < 256 ^ width ⌝ }
+{
+    let mut number: u64 = 0;
+    let mut i: usize = 0;
+    while i < width {
+        number = number * 256 + wide(byte_at(operands, at + i));
+        i += 1;
+    }
+    number
+}
+
+fn one_byte(operands: &[u8], at: usize) -> u8
+    requires { ⌜ at < 256 ⌝ }
+    ensures { λ r. ⌜ r ≡ numberAt (now (operands .entry)) at 1 ⌝ }
+{
+    number_at(operands, at, 1) as u8
+}
+
+fn two_bytes(operands: &[u8], at: usize) -> u16
+    requires { ⌜ at < 256 ⌝ }
+    ensures { λ r. ⌜ r ≡ numberAt (now (operands .entry)) at 2 ⌝ }
+{
+    number_at(operands, at, 2) as u16
+}
+
+fn eight_bytes(operands: &[u8], at: usize) -> u64
+    requires { ⌜ at < 256 ⌝ }
+    ensures { λ r. ⌜ r ≡ numberAt (now (operands .entry)) at 8 ⌝ }
+{
+    number_at(operands, at, 8)
+}
+
+// The bytes from index `at` on, as many as `into` takes.
+fn copy_bytes(operands: &[u8], at: usize, into: &mut [u8])
+    requires { ⌜ (at < 256) × (length (now into) < 256) ⌝ }
+    ensures { λ _. ⌜ now (into .exit) ≡ paddedAt (now (operands .entry)) at (length (now (into .entry))) ⌝ }
+{
+    let mut i: usize = 0;
+    while i < into.len() {
+        into[i] = byte_at(operands, at + i);
+        i += 1;
+    }
+}
+
+// "01 type 1, BIC 11"
+pub fn decode_csd(operands: &[u8]) -> Csd
+    ensures { λ r. ⌜ r ≡ csdIn (now (operands .entry)) ⌝ }
+{
+    let external = one_byte(operands, 0);
+    let mut bic = [0u8; 11];
+    copy_bytes(operands, 1, &mut bic);
+    Csd { external, bic }
+}
+
+// "02 ISIN 12"
+pub fn decode_security(operands: &[u8]) -> Security
+    ensures { λ r. ⌜ r ≡ securityIn (now (operands .entry)) ⌝ }
+{
+    let mut isin = [0u8; 12];
+    copy_bytes(operands, 0, &mut isin);
+    Security { isin: isin }
+}
+
+// "03 CSD 1, kind 1"
+pub fn decode_account(operands: &[u8]) -> Account
+    ensures { λ r. ⌜ accountRow r ≡ accountAt (now (operands .entry)) ⌝ }
+{
+    let csd = one_byte(operands, 0);
+    let kind = one_byte(operands, 1);
+    Account { csd, kind }
+}
+
+// "04 investor 1, technical 1, accounts 2 and 2"
+pub fn decode_pair(operands: &[u8]) -> Pair
+    ensures { λ r. ⌜ pairRow r ≡ pairAt (now (operands .entry)) ⌝ }
+{
+    let investor = one_byte(operands, 0);
+    let technical = one_byte(operands, 1);
+    let mirror = two_bytes(operands, 2);
+    let omnibus = two_bytes(operands, 4);
+    Pair {
+        investor,
+        technical,
+        mirror,
+        omnibus,
+    }
+}
+
+// "05 security 1, kind 1, CSD 1, technical 1, flag 1, account 2"
+pub fn decode_link(operands: &[u8]) -> Link
+    ensures { λ r. ⌜ linkRow r ≡ linkAt (now (operands .entry)) ⌝ }
+{
+    let security = one_byte(operands, 0);
+    let kind = one_byte(operands, 1);
+    let csd = one_byte(operands, 2);
+    let technical = one_byte(operands, 3);
+    let flag = one_byte(operands, 4);
+    let account = two_bytes(operands, 5);
+    Link {
+        security,
+        kind,
+        csd,
+        technical,
+        flag,
+        account,
+    }
+}
+
+// "06 in, 07 out: account 2, security 1, quantity 8"
+pub fn decode_move(operands: &[u8]) -> Move
+    ensures { λ r. ⌜ r ≡ moveIn (now (operands .entry)) ⌝ }
+{
+    let account = two_bytes(operands, 0);
+    let security = one_byte(operands, 2);
+    let quantity = eight_bytes(operands, 3);
+    Move {
+        account,
+        security,
+        quantity,
+    }
+}
+
+// "08 in, 09 out: account 2, amount 8"
+pub fn decode_payment(operands: &[u8]) -> Payment
+    ensures { λ r. ⌜ r ≡ paymentIn (now (operands .entry)) ⌝ }
+{
+    let account = two_bytes(operands, 0);
+    let amount = eight_bytes(operands, 2);
+    Payment { account, amount }
+}
+
+// "each account 2, counterpart CSD 1, security 1, quantity 8, amount 8"
+fn half_at(operands: &[u8], at: usize) -> Half
+    requires { ⌜ at < 64 ⌝ }
+    ensures { λ r. ⌜ r ≡ halfAt (now (operands .entry)) at ⌝ }
+{
+    let account = two_bytes(operands, at);
+    let counterpart = one_byte(operands, at + 2);
+    let security = one_byte(operands, at + 3);
+    let quantity = eight_bytes(operands, at + 4);
+    let amount = eight_bytes(operands, at + 12);
+    Half {
+        account,
+        counterpart,
+        security,
+        quantity,
+        amount,
+    }
+}
+
+// "0A settle, 0B derive: two halves, delivering first"
+pub fn decode_delivering(operands: &[u8]) -> Half
+    ensures { λ r. ⌜ r ≡ halfAt (now (operands .entry)) 0 ⌝ }
+{
+    half_at(operands, 0)
+}
+
+pub fn decode_receiving(operands: &[u8]) -> Half
+    ensures { λ r. ⌜ r ≡ halfAt (now (operands .entry)) 20 ⌝ }
+{
+    half_at(operands, 20)
+}
