@@ -1,0 +1,79 @@
+-- The calls of the commands by kind, and the widths of their operands.
+use mathlib.Core.Path.{_≡_, refl, sym, ap, _∙_}
+use mathlib.Core.Bool.{Bool, true, false, _&&_, cond}
+use mathlib.Core.List.{List, [], _∷_}
+use mathlib.Core.Option.{some}
+use Prim.Native.Nat.{ℕ, zero, suc, _≤_}
+use native.Mathlib.Decide.{ℕ-discrete}
+use native.Mathlib.Omega.{arith}
+use lib.Dec.{eqb, leb}
+use lib.ListN.{length, getElem?}
+use Rattle.rules.specs.declared.Half.{Half}
+use Rattle.rules.specs.Directory.{Row}
+use Rattle.rules.specs.Booking.{Way, positionCount, cashCount}
+use Rattle.rules.specs.Calls.{Store, Call, enter, move, pay, settle, derive, misfit}
+use Rattle.rules.specs.Stream.{widths, widthOf, callOf, programSteps}
+use Rattle.rules.proofs.Basics.{and-both, eqb-true, eqb-not, leb-is}
+use Rattle.rules.proofs.Running.{Ready}
+use Rattle.wire.proofs.Decoded.{known-tag}
+
+-- ---- kinds
+
+-- the byte is n, or above it
+next : (P : Call → Type 0) (n tag : ℕ) {x y : Call} → n ≤ tag → P x → (suc n ≤ tag → P y) → P (cond (eqb tag n) x y)
+next P n tag {x} {y} l here above = go (eqb tag n) refl
+  where
+    go : (b : Bool) → eqb tag n ≡ b → P (cond b x y)
+    go true e = here
+    go false e = above (omega (arith, eqb-not tag n e))
+
+-- what holds of each kind of call holds of every command's; two halves come from 0A on
+pub by-kind : (P : Call → Type 0) (tag : ℕ) (o : List ℕ) → 1 ≤ tag → ((x : Row) → P (enter x)) → ((w : Way) (a s q : ℕ) → P (move w a s q))
+    → ((w : Way) (a m : ℕ) → P (pay w a m)) → (10 ≤ tag → (h g : Half) → P (settle h g programSteps))
+    → (10 ≤ tag → (h g : Half) → P (derive h g programSteps)) → P (callOf tag o)
+unfolding callOf
+by-kind P tag o l entered moved paid settled derived =
+    next P 1 tag l (entered _) (λ l. next P 2 tag l (entered _) (λ l. next P 3 tag l (entered _) (λ l.
+    next P 4 tag l (entered _) (λ l. next P 5 tag l (entered _) (λ l. next P 6 tag l (moved _ _ _ _) (λ l.
+    next P 7 tag l (moved _ _ _ _) (λ l. next P 8 tag l (paid _ _ _) (λ l. next P 9 tag l (paid _ _ _) (λ l.
+    next P 10 tag l (settled l _ _) (λ k. derived l _ _))))))))))
+
+-- a ready store's lists, and the program's step list, fit
+pub fits : (st : Store) → Ready st → (tag : ℕ) (o : List ℕ) → 1 ≤ tag → misfit (callOf tag o) st ≡ false
+unfolding misfit
+fits st ready tag o l =
+    by-kind (λ (c : Call). misfit c st ≡ false) tag o l (λ x. refl) (λ w a s q. rw held) (λ w a m. rw paid) (λ k h g. rw (held, paid)) (λ k h g. refl)
+  where
+    held : eqb (length (st .positions)) positionCount ≡ true
+    held = eqb-true (length (st .positions)) positionCount (ready .positions)
+
+    paid : eqb (length (st .cash)) cashCount ≡ true
+    paid = eqb-true (length (st .cash)) cashCount (ready .cash)
+
+-- ---- widths
+
+eachWide : List ℕ → Bool
+eachWide [] = true
+eachWide (x ∷ xs) = leb 2 x && eachWide xs
+
+wide-at : (xs : List ℕ) (n w : ℕ) → eachWide xs ≡ true → getElem? xs n ≡ some w → 2 ≤ w
+unfolding eachWide
+wide-at [] n w h e = let z : _≡_ {A = ℕ} 0 1 = cc in absurd (omega arith)
+wide-at (x ∷ xs) zero w h e = let k : x ≡ w = cc in omega (arith, leb-is 2 x (and-both (leb 2 x) (eachWide xs) h .0))
+wide-at (x ∷ xs) (suc n) w h e = wide-at xs n w (and-both (leb 2 x) (eachWide xs) h .1) e
+
+-- no command has less than two bytes of operands
+pub wide : (tag w : ℕ) → widthOf tag ≡ some w → 2 ≤ w
+unfolding eachWide
+wide zero w e = let z : _≡_ {A = ℕ} 0 1 = cc in absurd (omega arith)
+wide (suc n) w e = wide-at widths n w refl e
+
+-- two halves have 40
+pub pair-wide : (tag w : ℕ) → widthOf tag ≡ some w → 10 ≤ tag → w ≡ 40
+pair-wide tag w e l = go (ℕ-discrete tag 10)
+  where
+    go : Dec (tag ≡ 10) → w ≡ 40
+    go (yes k) = let f : some 40 ≡ some w = ap widthOf (sym k) ∙ e in cc
+    go (no k) =
+        let j : tag ≡ 11 = omega (arith, known-tag tag w e .1) in
+        let f : some 40 ≡ some w = ap widthOf (sym j) ∙ e in cc

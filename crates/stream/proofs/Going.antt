@@ -1,0 +1,137 @@
+-- The loop over a stream: the text so far, followed by the lines of the rest, is the whole text. There is room for it: at most 6 bytes of text
+-- for each byte of input, 16 for a stop, and an end of at most 683, which together are less than 400,000.
+use mathlib.Core.Path.{_≡_, refl, sym, ap, _∙_}
+use Prim.Native.Nat.{ℕ, suc, _+_, _-_, _*_, _≤_, _<_}
+use native.Mathlib.Nat.{mul-suc}
+use native.Mathlib.Numerals.{add-one}
+use native.Mathlib.Omega.{arith}
+use mathlib.Core.List.{List, [], _∷_, _++_, append-assoc}
+use lib.IntN.{ℤ}
+use lib.ListN.{length, take, drop, length-append, length-take}
+use lib.Seq.{length-take-le}
+use borrow.Author.Tests.{lt-ltb, le-ltb}
+use Rattle.rules.specs.declared.Account.{Account}
+use Rattle.rules.specs.declared.Directory.{Directory}
+use Rattle.rules.specs.declared.Security.{Security}
+use Rattle.rules.specs.Directory.{rowsOf, securityLimit, emptyDirectory}
+use Rattle.rules.specs.Booking.{positionCount, cashCount, participantSum, cashSum}
+use Rattle.rules.specs.Calls.{Store, zeros, emptyStore}
+use Rattle.rules.specs.Stream.{bytes, totalLine, totalLines, cashLine, ending, linesFrom, inputLimit, transcript}
+use Rattle.rules.proofs.Facts.{Facts}
+use Rattle.rules.proofs.Soundness.{sound-gives}
+use Rattle.rules.proofs.Running.{Ready, empty-ready}
+use Rattle.text.specs.Appended.{Appended}
+use Rattle.text.proofs.Appends.{Fitted, fits}
+use Rattle.text.proofs.Lengths.{short-total, short-cash}
+use Rattle.stream.specs.declared.turns.Turn.{Turn}
+use Rattle.stream.specs.Obeyed.{store}
+use Rattle.stream.specs.Turns.{Told, told, Takes}
+use Rattle.stream.specs.Printed.{room, Printed}
+use Rattle.stream.proofs.Keeping.{Bounded, empty-bounded}
+use Rattle.stream.proofs.Turned.{Turned, turned, lines-end}
+
+-- ---- the end
+
+totals-short : (acc : List Account) (p : List ℤ) (s : ℕ) (xs : List Security) → length (totalLines acc p s xs) ≤ 41 * length xs
+unfolding totalLines
+totals-short acc p s [] = omega arith
+totals-short acc p s (x ∷ xs) =
+    omega (arith, short-total (x .isin) (participantSum acc p s), totals-short acc p (suc s) xs, length-append (totalLine (x .isin) (participantSum acc p s)) (totalLines acc p (suc s) xs), mul-suc 41 (length xs))
+
+ending-short : (st : Store) → Ready st → length (ending st) ≤ 683
+unfolding ending
+ending-short st h =
+    let F : Facts (rowsOf (st .directory)) = sound-gives (st .directory) (h .soundBooks) in
+    let few : length (rowsOf (st .directory) .securities) ≤ securityLimit = F .fewSecurities in
+    let acc = rowsOf (st .directory) .accounts in
+    let xs = rowsOf (st .directory) .securities in
+    omega (arith, totals-short acc (st .positions) 0 xs, short-cash (cashSum (st .cash)), length-append (totalLines acc (st .positions) 0 xs) (cashLine (cashSum (st .cash))))
+
+-- ---- the loop
+
+pub record Going (s before out : List ℕ) (st : Store) (at number end : ℕ) : Type 0 where
+  -- a command takes a byte or more
+  pub counted : number ≤ at
+  pub inside : at ≤ length s
+  pub roomy : at < length s → end ≤ 6 * at
+  pub fits : end ≤ 6 * at + 16
+  pub same : length out ≡ length before
+  pub ready : Ready st
+  pub bounded : Bounded st
+  pub whole : take end out ++ linesFrom (length s - number) (number + 1) (drop at s) st ≡ linesFrom (length s) 1 s emptyStore
+
+going-empty : (s out : List ℕ) (st : Store) → st ≡ emptyStore → Going s out out st 0 0 0
+going-empty s out st e =
+    rw e (record {
+      counted = omega arith;
+      inside = omega arith;
+      roomy = λ h. omega arith;
+      fits = omega arith;
+      same = refl;
+      ready = empty-ready;
+      bounded = empty-bounded;
+      whole = let z : length s - 0 ≡ length s = omega arith in rw z;
+    })
+
+pub going-start : (s out : List ℕ) (d : Directory) → d ≡ emptyDirectory → Going s out out (store d (zeros positionCount) (zeros cashCount)) 0 0 0
+unfolding emptyStore
+going-start s out d e = going-empty s out _ (ap (λ (x : Directory). store x (zeros positionCount) (zeros cashCount)) e)
+
+module _ (s before out : List ℕ) (st : Store) (at number end : ℕ) (g : Going s before out st at number end) (short : length s ≤ inputLimit) (large : room ≤ length before) where
+  -- the text ends inside the output
+  pub ends-inside : end ≤ length out
+  ends-inside = omega (arith, g .fits, g .inside, g .same)
+
+  module _ (h : at < length s) where
+    abbrev here : Told
+    here = told s (number + 1) at st
+
+    pub turn : Turned s (number + 1) at st here
+    turn = turned s (number + 1) at st (omega (arith, g .counted)) h (g .ready) (g .bounded)
+
+    pub goes-on : (after : List ℕ) (p c : List ℤ) (t : Turn) → Takes here out end after t p c → Going s before after (store (t .directory) p c) (t .at) (number + 1) (t .end)
+    goes-on after p c t k =
+        let m = turn in
+        let on : t .at ≡ here .at = k .on in
+        let text : Fitted out end after (t .end) (here .text) = fits (k .lines) (omega (arith, g .roomy h, g .same, m .fits, m .within)) in
+        let fuel : length s - number ≡ suc (length s - (number + 1)) = omega (arith, g .counted) in
+        record {
+          counted = omega (arith, g .counted, m .on);
+          inside = omega (arith, m .within);
+          roomy = λ l. omega (arith, g .roomy h, text .ends, m .short (omega arith));
+          fits = omega (arith, g .roomy h, text .ends, m .fits);
+          same = text .same ∙ g .same;
+          ready = rw (k .left) (m .ready);
+          bounded = rw (k .left) (m .bounded);
+          whole = rw (k .left, on, text .front, append-assoc, add-one (number + 1), ← m .lines (length s - (number + 1)), ← fuel) (g .whole);
+        }
+
+  -- what stands there once the end is told
+  pub all-told : (after : List ℕ) (r : ℕ) → length s ≤ at → Appended out end after r (ending st)
+      → (r ≡ length (linesFrom (length s) 1 s emptyStore)) × (take r after ≡ linesFrom (length s) 1 s emptyStore)
+  all-told after r h a =
+      let text : Fitted out end after r (ending st) = fits a (omega (arith, g .fits, g .inside, g .same, ending-short st (g .ready))) in
+      let w : take end out ++ ending st ≡ linesFrom (length s) 1 s emptyStore = rw (lines-end (length s - number) (number + 1) s at st h) at (g .whole) in
+      (omega (arith, text .ends, ap length w, length-append (take end out) (ending st), length-take-le end out ends-inside), text .front ∙ w)
+
+-- ---- what a run prints
+
+module _ (s before after : List ℕ) (r : ℕ) where
+  printed : (text : List ℕ) → room ≤ length before → (r ≡ length text) × (take r after ≡ text) → Printed text before after r
+  printed text m p =
+      let f : r ≡ length (take r after) = p .0 ∙ sym (ap length (p .1)) in
+      record { prints = λ k. p; refuses = λ k. absurd (omega arith); inside = omega (arith, length-take r after); whole = f }
+
+  pub prints-lines : length s ≤ inputLimit → room ≤ length before
+      → (r ≡ length (linesFrom (length s) 1 s emptyStore)) × (take r after ≡ linesFrom (length s) 1 s emptyStore) → Printed (transcript s) before after r
+  unfolding transcript
+  prints-lines h m p = rw (le-ltb inputLimit (length s) h) (printed (linesFrom (length s) 1 s emptyStore) m p)
+
+  pub prints-long : inputLimit < length s → room ≤ length before → Appended before 0 after r (bytes "too long\n") → Printed (transcript s) before after r
+  unfolding transcript
+  prints-long h m a =
+      let text : Fitted before 0 after r (bytes "too long\n") = fits a (omega arith) in
+      rw (lt-ltb inputLimit (length s) h) (printed (bytes "too long\n") m (text .ends, text .front))
+
+pub refuses-short : (s before : List ℕ) → length before < room → Printed (transcript s) before before 0
+refuses-short s before h = record { prints = λ k. absurd (omega arith); refuses = λ k. (refl, refl); inside = omega arith; whole = refl }

@@ -1,0 +1,9 @@
+pub mod Obeying
+pub mod Telling
+pub mod CallKinds
+pub mod Entered
+pub mod Keeping
+pub mod Totals
+pub mod Brief
+pub mod Turned
+pub mod Going

@@ -1,0 +1,143 @@
+-- `stream::turns::take_turn` meets its contract: by what stands at the place, nothing, a stop, or a command obeyed and told. Assumes nothing.
+use mathlib.Core.Path.{sym, _∙_}
+use native.Mathlib.Omega.{arith}
+use Rattle.wire.proofs.Found.{stands, operands-long}
+use Rattle.stream.proofs.Telling.{takes-nothing, takes-unknown, takes-cut, takes-command}
+use borrow.Author.Needs.{needs}
+use Rattle.stream.proofs.turns.take_turn.Statement.{statement}
+use Rattle.stream.proofs.turns.take_turn.Tie as tie
+
+next-in-requires : tie.Need-next-in-requires
+next-in-requires c κs = search needs
+
+enum-told : tie.Need-enum-told
+enum-told c = search needs
+
+slice-aggregate-put-word : tie.Need-slice-aggregate-put-word
+slice-aggregate-put-word c = search needs
+
+put-word-requires : tie.Need-put-word-requires
+put-word-requires c κs = search needs
+
+enum-told-2 : tie.Need-enum-told-2
+enum-told-2 c = search needs
+
+stop-requires : tie.Need-stop-requires
+stop-requires c κs = search needs
+
+enum-told-3 : tie.Need-enum-told-3
+enum-told-3 c = search needs
+
+stop-requires-2 : tie.Need-stop-requires-2
+stop-requires-2 c κs = search needs
+
+enum-known-tag : tie.Need-enum-known-tag
+enum-known-tag c = search needs
+
+sub-obey : tie.Need-sub-obey
+sub-obey c =
+    let k = c .before .before .before in
+    let a = k .before .before .before .before .before .args in
+    let x = k .tag .given .0 in
+    let h = stands (a .input .now) (a .at) (x .0) (x .1 .0) (x .1 .1 .0) (sym (k .before .before .next-in .ensures) ∙ k .tag .given .1) in
+    omega (arith, h .starts, h .forward)
+
+part-obey-start : tie.Need-part-obey-start
+part-obey-start c =
+    let k = c .before .before .before in
+    let a = k .before .before .before .before .before .args in
+    let x = k .tag .given .0 in
+    let h = stands (a .input .now) (a .at) (x .0) (x .1 .0) (x .1 .1 .0) (sym (k .before .before .next-in .ensures) ∙ k .tag .given .1) in
+    search needs
+
+part-obey-end : tie.Need-part-obey-end
+part-obey-end c =
+    let k = c .before .before .before in
+    let a = k .before .before .before .before .before .args in
+    let x = k .tag .given .0 in
+    let h = stands (a .input .now) (a .at) (x .0) (x .1 .0) (x .1 .1 .0) (sym (k .before .before .next-in .ensures) ∙ k .tag .given .1) in
+    search needs
+
+obey-requires : tie.Need-obey-requires
+obey-requires c κs = search needs
+
+put-said-requires : tie.Need-put-said-requires
+put-said-requires c κs = search needs
+
+same-length : tie.Need-same-length
+same-length c = search needs
+
+returns : tie.Need-returns
+returns c =
+    let k = c .before .before .before .before .before in
+    let a = k .before .before .before .before .before .args in
+    takes-nothing (a .input .now) (a .number) (a .at) (a .directory) (a .positions .now) (a .cash .now) (a .out .now) (a .end) _ _ (sym (k .before .before .next-in .ensures) ∙ k .enum-told .given .1) (c .before .before .put-word .ensures)
+
+same-length-2 : tie.Need-same-length-2
+same-length-2 c = search needs
+
+returns-2 : tie.Need-returns-2
+returns-2 c =
+    let k = c .before .before .before .before in
+    let a = k .before .before .before .before .before .args in
+    let e = c .before .before .stop .ensures in
+    takes-unknown (a .input .now) (a .number) (a .at) (a .directory) (a .positions .now) (a .cash .now) (a .out .now) (a .end) _ _ (sym (k .before .before .next-in .ensures) ∙ k .enum-told2 .given .1) (e .0) (e .1) (e .2)
+
+same-length-3 : tie.Need-same-length-3
+same-length-3 c = search needs
+
+returns-3 : tie.Need-returns-3
+returns-3 c =
+    let k = c .before .before .before .before in
+    let a = k .before .before .before .before .before .args in
+    let e = c .before .before .stop2 .ensures in
+    takes-cut (a .input .now) (a .number) (a .at) (a .directory) (a .positions .now) (a .cash .now) (a .out .now) (a .end) _ _ (sym (k .before .before .next-in .ensures) ∙ k .enum-told3 .given .1) (e .0) (e .1) (e .2)
+
+same-length-4 : tie.Need-same-length-4
+same-length-4 c = search needs
+
+same-length-5 : tie.Need-same-length-5
+same-length-5 c = search needs
+
+same-length-6 : tie.Need-same-length-6
+same-length-6 c = search needs
+
+returns-4 : tie.Need-returns-4
+returns-4 c =
+    let said = c .before .before in
+    let done = said .before .before .before .before .before .before in
+    let k = done .before .before .before .before .before in
+    let a = k .before .before .before .before .before .args in
+    let x = k .tag .given .0 in
+    let next = sym (k .before .before .next-in .ensures) ∙ k .tag .given .1 in
+    takes-command (a .input .now) (a .number) (a .at) (a .directory) (a .positions .now) (a .cash .now) (a .out .now) (a .end) (x .0) (x .1 .0) (x .1 .1 .0) (done .obey .result) _ _ _ _ next
+    (done .obey .ensures (operands-long (stands (a .input .now) (a .at) (x .0) (x .1 .0) (x .1 .1 .0) next))) (said .put-said .ensures)
+
+pub take-turn-spec : {M : Type 1} → statement M
+take-turn-spec =
+    tie.close
+    (tie.spec
+    next-in-requires
+    enum-told
+    slice-aggregate-put-word
+    put-word-requires
+    enum-told-2
+    stop-requires
+    enum-told-3
+    stop-requires-2
+    enum-known-tag
+    sub-obey
+    part-obey-start
+    part-obey-end
+    obey-requires
+    put-said-requires
+    same-length
+    returns
+    same-length-2
+    returns-2
+    same-length-3
+    returns-3
+    same-length-4
+    same-length-5
+    same-length-6
+    returns-4)
