@@ -1,0 +1,9 @@
+//! `realign` by the model: reads standard input and prints the transcript.
+
+use std::io::{self, Read, Write};
+
+fn main() -> io::Result<()> {
+    let mut input = Vec::new();
+    io::stdin().read_to_end(&mut input)?;
+    io::stdout().write_all(&checker::transcript(&input))
+}

@@ -1,0 +1,234 @@
+//! Positions and cash: what a call may change, judged on the numbers before it, and the change.
+
+use crate::chain::{Step, Steps};
+use crate::directory::{ACCOUNTS, OMNIBUS, PARTICIPANT, SECURITIES};
+use crate::numbers::{AccountNumber, SecurityNumber};
+use crate::refusal::{require, Refusal};
+use crate::register::Register;
+
+/// 10^15: the largest quantity and amount, and the bound of every number that a call changes.
+pub const BOUND: i64 = 1_000_000_000_000_000;
+
+/// A number in one unit of measure. Sums end within the bound, or are refused 22.
+macro_rules! bounded_number {
+    ($name:ident, $words:literal) => {
+        #[doc = $words]
+        #[derive(Clone, Copy, PartialEq, Eq, PartialOrd, Ord, Debug, Default)]
+        #[repr(transparent)]
+        pub struct $name(pub i64);
+
+        impl $name {
+            pub fn is_within_bound(self) -> bool {
+                -BOUND <= self.0 && self.0 <= BOUND
+            }
+
+            fn plus(self, other: $name) -> Result<$name, Refusal> {
+                let sum = self.0.checked_add(other.0).map($name);
+                sum.filter(|sum| sum.is_within_bound()).ok_or(Refusal::BeyondBound)
+            }
+
+            fn minus(self, other: $name) -> Result<$name, Refusal> {
+                let difference = self.0.checked_sub(other.0).map($name);
+                difference.filter(|difference| difference.is_within_bound()).ok_or(Refusal::BeyondBound)
+            }
+        }
+    };
+}
+
+bounded_number!(Units, "Units of a security.");
+bounded_number!(Cents, "Cents of cash.");
+
+/// By account × 16 + security.
+pub type Positions = [Units; ACCOUNTS * SECURITIES];
+/// By account.
+pub type Cash = [Cents; ACCOUNTS];
+
+fn position(account: AccountNumber, security: SecurityNumber) -> usize {
+    account.index() * SECURITIES + security.index()
+}
+
+/// One of the two instructions of a settlement.
+#[derive(Clone, Copy, PartialEq, Eq, Debug, Default)]
+pub struct Half {
+    pub account: u16,
+    pub counterpart: u8,
+    pub security: u8,
+    pub quantity: Units,
+    pub amount: Cents,
+}
+
+/// Two halves that go together.
+struct Instruction {
+    delivering: AccountNumber,
+    receiving: AccountNumber,
+    security: SecurityNumber,
+    quantity: Units,
+    amount: Cents,
+}
+
+/// What moves an account's own number, in or out of the books.
+#[derive(Clone, Copy, PartialEq, Eq, Debug)]
+pub enum Direction {
+    In,
+    Out,
+}
+
+impl Register {
+    /// The chain of two halves, or refusal 6 to 18.
+    pub fn derive_halves(&self, delivering: &Half, receiving: &Half) -> Result<Steps, Refusal> {
+        let instruction = self.instruction(delivering, receiving)?;
+        self.derive(instruction.security, instruction.delivering, instruction.receiving)
+    }
+
+    /// Books the chain of two halves and their cash, or gives refusal 6 to 22 and changes nothing.
+    pub fn settle(
+        &self,
+        positions: &mut Positions,
+        cash: &mut Cash,
+        delivering: &Half,
+        receiving: &Half,
+    ) -> Result<Steps, Refusal> {
+        let instruction = self.instruction(delivering, receiving)?;
+        let steps = self.derive(instruction.security, instruction.delivering, instruction.receiving)?;
+        self.book(positions, cash, &instruction, &steps)?;
+        Ok(steps)
+    }
+
+    /// Brings a quantity in on a participant account against its CSD's source, or takes it out.
+    pub fn move_securities(
+        &self,
+        positions: &mut Positions,
+        direction: Direction,
+        account: u16,
+        security: u8,
+        quantity: Units,
+    ) -> Result<(), Refusal> {
+        let account = self.account(account)?;
+        let security = self.security(security)?;
+        require((1..=BOUND).contains(&quantity.0), Refusal::OutsideRange)?;
+        require(self.account_kind(account) == PARTICIPANT, Refusal::WrongAccount)?;
+        let own = position(account, security);
+        let source = position(self.source(security, account)?, security);
+        (positions[own], positions[source]) = match direction {
+            Direction::In => (positions[own].plus(quantity)?, positions[source].minus(quantity)?),
+            Direction::Out => {
+                require(positions[own] >= quantity, Refusal::SecuritiesShort)?;
+                (positions[own].minus(quantity)?, positions[source].plus(quantity)?)
+            }
+        };
+        Ok(())
+    }
+
+    /// Pays an amount in on a participant account, or out.
+    pub fn move_cash(&self, cash: &mut Cash, direction: Direction, account: u16, amount: Cents) -> Result<(), Refusal> {
+        let account = self.account(account)?;
+        require((1..=BOUND).contains(&amount.0), Refusal::OutsideRange)?;
+        require(self.account_kind(account) == PARTICIPANT, Refusal::WrongAccount)?;
+        let balance = &mut cash[account.index()];
+        *balance = match direction {
+            Direction::In => balance.plus(amount)?,
+            Direction::Out => {
+                require(*balance >= amount, Refusal::CashShort)?;
+                balance.minus(amount)?
+            }
+        };
+        Ok(())
+    }
+
+    /// The sum of participant positions in a security, or 6 or 22.
+    pub fn total(&self, positions: &Positions, security: u8) -> Result<i64, Refusal> {
+        let security = self.security(security)?;
+        let accounts = 0..self.directory().accounts.count as u16;
+        let participants = accounts.map(AccountNumber).filter(|&account| self.account_kind(account) == PARTICIPANT);
+        participants.map(|account| positions[position(account, security)]).try_fold(0, |sum, units| {
+            require(units.is_within_bound(), Refusal::BeyondBound)?;
+            Ok(sum + units.0)
+        })
+    }
+
+    /// Judges each half by itself (6, 7, 10), then both together (12, 13).
+    fn instruction(&self, delivering: &Half, receiving: &Half) -> Result<Instruction, Refusal> {
+        let halves = [delivering, receiving];
+        for half in halves {
+            self.account(half.account)?;
+            self.csd(half.counterpart)?;
+            self.security(half.security)?;
+        }
+        let in_range = |half: &&Half| (1..=BOUND).contains(&half.quantity.0) && (0..=BOUND).contains(&half.amount.0);
+        require(halves.iter().all(in_range), Refusal::OutsideRange)?;
+        let (d, r) = (self.account(delivering.account)?, self.account(receiving.account)?);
+        let participants = [d, r].iter().all(|&account| self.account_kind(account) == PARTICIPANT);
+        require(participants, Refusal::WrongAccount)?;
+        let agree = delivering.security == receiving.security
+            && delivering.quantity == receiving.quantity
+            && delivering.amount == receiving.amount
+            && delivering.counterpart == self.account_csd(r).0
+            && receiving.counterpart == self.account_csd(d).0;
+        require(agree, Refusal::HalvesDiffer)?;
+        require(d != r, Refusal::SameAccount)?;
+        Ok(Instruction {
+            delivering: d,
+            receiving: r,
+            security: self.security(delivering.security)?,
+            quantity: delivering.quantity,
+            amount: delivering.amount,
+        })
+    }
+
+    /// Moves the quantity along the steps and the amount back, or gives 20, 21 or 22. No number is
+    /// changed by two steps, so each is judged by itself.
+    fn book(
+        &self,
+        positions: &mut Positions,
+        cash: &mut Cash,
+        instruction: &Instruction,
+        steps: &[Step],
+    ) -> Result<(), Refusal> {
+        let Instruction { delivering, receiving, security, quantity, amount } = *instruction;
+        let places = |step: &Step| {
+            let place = |account| position(AccountNumber(account), security);
+            (place(step.debit), place(step.credit))
+        };
+        let (mut short, mut beyond) = (false, false);
+        for step in steps {
+            let (debit, credit) = places(step);
+            let provided = matches!(self.account_kind(AccountNumber(step.debit)), PARTICIPANT | OMNIBUS);
+            short |= provided && positions[debit] < quantity;
+            beyond |= positions[debit].minus(quantity).is_err() || positions[credit].plus(quantity).is_err();
+        }
+        require(!short, Refusal::SecuritiesShort)?;
+        let (payee, payer) = (cash[delivering.index()], cash[receiving.index()]);
+        let paid = amount.0 > 0;
+        require(!paid || payer >= amount, Refusal::CashShort)?;
+        require(!beyond, Refusal::BeyondBound)?;
+        if paid {
+            (cash[delivering.index()], cash[receiving.index()]) = (payee.plus(amount)?, payer.minus(amount)?);
+        }
+        for step in steps {
+            let (debit, credit) = places(step);
+            positions[debit].0 -= quantity.0;
+            positions[credit].0 += quantity.0;
+        }
+        Ok(())
+    }
+
+    /// The account that bring in debits: "the issuance account of its issuer link, else the inter-CSD
+    /// account of its default link to an external CSD", or 19.
+    fn source(&self, security: SecurityNumber, account: AccountNumber) -> Result<AccountNumber, Refusal> {
+        let csd = self.account_csd(account);
+        if self.is_issuer(security, csd) {
+            return Ok(self.issuance(security, csd));
+        }
+        self.default_technical(security, csd)
+            .filter(|&technical| self.is_external(technical))
+            .and_then(|technical| self.pair(csd, technical))
+            .map(|pair| AccountNumber(pair.investor_account))
+            .ok_or(Refusal::NoSource)
+    }
+}
+
+/// The sum of all balances, or 22.
+pub fn cash_total(cash: &Cash) -> Result<i64, Refusal> {
+    require(cash.iter().all(|balance| balance.is_within_bound()), Refusal::BeyondBound)?;
+    Ok(cash.iter().map(|balance| balance.0).sum())
+}

@@ -1,0 +1,161 @@
+//! Commands as bytes: one byte for the command, then operands big-endian of fixed widths.
+
+use crate::booking::{Cents, Half, Units};
+use crate::directory::{Account, Csd, Link, Pair, Security};
+use crate::refusal::Refusal;
+
+#[derive(Clone, Copy, PartialEq, Eq, Debug)]
+pub enum Command {
+    EnterCsd(Csd),
+    EnterSecurity(Security),
+    EnterAccount(Account),
+    EnterPair(Pair),
+    EnterLink(Link),
+    BringIn { account: u16, security: u8, quantity: Units },
+    TakeOut { account: u16, security: u8, quantity: Units },
+    PayIn { account: u16, amount: Cents },
+    PayOut { account: u16, amount: Cents },
+    Settle { delivering: Half, receiving: Half },
+    Derive { delivering: Half, receiving: Half },
+}
+
+/// A place in the lent bytes, from which commands and their operands are read.
+pub struct Reader<'a> {
+    rest: &'a [u8],
+}
+
+impl<'a> Reader<'a> {
+    pub fn new(bytes: &'a [u8]) -> Reader<'a> {
+        Reader { rest: bytes }
+    }
+
+    /// The byte of the next command, if any.
+    pub fn peek(&self) -> Option<u8> {
+        self.rest.first().copied()
+    }
+
+    /// The next command, or 1 or 2.
+    pub fn command(&mut self) -> Result<Command, Refusal> {
+        Ok(match self.byte()? {
+            0x01 => Command::EnterCsd(Csd { kind: self.byte()?, bic: self.bytes()? }),
+            0x02 => Command::EnterSecurity(Security { isin: self.bytes()? }),
+            0x03 => Command::EnterAccount(Account { csd: self.byte()?, kind: self.byte()? }),
+            0x04 => Command::EnterPair(Pair {
+                investor: self.byte()?,
+                technical: self.byte()?,
+                investor_account: self.account()?,
+                technical_account: self.account()?,
+            }),
+            0x05 => Command::EnterLink(Link {
+                security: self.byte()?,
+                kind: self.byte()?,
+                csd: self.byte()?,
+                technical: self.byte()?,
+                flag: self.byte()?,
+                account: self.account()?,
+            }),
+            0x06 => Command::BringIn { account: self.account()?, security: self.byte()?, quantity: self.units()? },
+            0x07 => Command::TakeOut { account: self.account()?, security: self.byte()?, quantity: self.units()? },
+            0x08 => Command::PayIn { account: self.account()?, amount: self.cents()? },
+            0x09 => Command::PayOut { account: self.account()?, amount: self.cents()? },
+            0x0A => Command::Settle { delivering: self.half()?, receiving: self.half()? },
+            0x0B => Command::Derive { delivering: self.half()?, receiving: self.half()? },
+            _ => return Err(Refusal::UnknownCommand),
+        })
+    }
+
+    fn bytes<const WIDTH: usize>(&mut self) -> Result<[u8; WIDTH], Refusal> {
+        let (bytes, rest) = self.rest.split_first_chunk().ok_or(Refusal::CutShort)?;
+        self.rest = rest;
+        Ok(*bytes)
+    }
+
+    fn byte(&mut self) -> Result<u8, Refusal> {
+        self.bytes().map(|[byte]| byte)
+    }
+
+    fn account(&mut self) -> Result<u16, Refusal> {
+        self.bytes().map(u16::from_be_bytes)
+    }
+
+    fn units(&mut self) -> Result<Units, Refusal> {
+        self.bytes().map(i64::from_be_bytes).map(Units)
+    }
+
+    fn cents(&mut self) -> Result<Cents, Refusal> {
+        self.bytes().map(i64::from_be_bytes).map(Cents)
+    }
+
+    fn half(&mut self) -> Result<Half, Refusal> {
+        Ok(Half {
+            account: self.account()?,
+            counterpart: self.byte()?,
+            security: self.byte()?,
+            quantity: self.units()?,
+            amount: self.cents()?,
+        })
+    }
+}
+
+impl Command {
+    /// The command's byte.
+    pub fn code(&self) -> u8 {
+        match self {
+            Command::EnterCsd(_) => 0x01,
+            Command::EnterSecurity(_) => 0x02,
+            Command::EnterAccount(_) => 0x03,
+            Command::EnterPair(_) => 0x04,
+            Command::EnterLink(_) => 0x05,
+            Command::BringIn { .. } => 0x06,
+            Command::TakeOut { .. } => 0x07,
+            Command::PayIn { .. } => 0x08,
+            Command::PayOut { .. } => 0x09,
+            Command::Settle { .. } => 0x0A,
+            Command::Derive { .. } => 0x0B,
+        }
+    }
+
+    /// Writes the command as a stream carries it.
+    pub fn write(&self, out: &mut Vec<u8>) {
+        out.push(self.code());
+        match *self {
+            Command::EnterCsd(Csd { kind, bic }) => {
+                out.push(kind);
+                out.extend(bic);
+            }
+            Command::EnterSecurity(Security { isin }) => out.extend(isin),
+            Command::EnterAccount(Account { csd, kind }) => out.extend([csd, kind]),
+            Command::EnterPair(Pair { investor, technical, investor_account, technical_account }) => {
+                out.extend([investor, technical]);
+                out.extend(investor_account.to_be_bytes());
+                out.extend(technical_account.to_be_bytes());
+            }
+            Command::EnterLink(Link { security, kind, csd, technical, flag, account }) => {
+                out.extend([security, kind, csd, technical, flag]);
+                out.extend(account.to_be_bytes());
+            }
+            Command::BringIn { account, security, quantity } | Command::TakeOut { account, security, quantity } => {
+                out.extend(account.to_be_bytes());
+                out.push(security);
+                out.extend(quantity.0.to_be_bytes());
+            }
+            Command::PayIn { account, amount } | Command::PayOut { account, amount } => {
+                out.extend(account.to_be_bytes());
+                out.extend(amount.0.to_be_bytes());
+            }
+            Command::Settle { delivering, receiving } | Command::Derive { delivering, receiving } => {
+                delivering.write(out);
+                receiving.write(out);
+            }
+        }
+    }
+}
+
+impl Half {
+    fn write(&self, out: &mut Vec<u8>) {
+        out.extend(self.account.to_be_bytes());
+        out.extend([self.counterpart, self.security]);
+        out.extend(self.quantity.0.to_be_bytes());
+        out.extend(self.amount.0.to_be_bytes());
+    }
+}

@@ -1,0 +1,68 @@
+//! The ISIN of ISO 6166: its form, and the sum that its check digit completes.
+
+use crate::directory::Isin;
+
+/// "Two capital letters, nine capitals or digits, one check digit."
+pub fn well_formed(isin: &Isin) -> bool {
+    isin[..2].iter().all(u8::is_ascii_uppercase)
+        && isin[2..11].iter().all(|&byte| capital_or_digit(byte))
+        && isin[11].is_ascii_digit()
+}
+
+/// "With the check digit the sum is a multiple of 10", for a well-formed ISIN. Read from the right,
+/// the check digit counts singly and then every other digit doubled, a letter being two digits.
+pub fn sum_fits(isin: &Isin) -> bool {
+    let mut sum = 0;
+    let mut doubled = false;
+    let mut add = |digit: u32| {
+        sum += if doubled { digit * 2 / 10 + digit * 2 % 10 } else { digit };
+        doubled = !doubled;
+    };
+    for &byte in isin.iter().rev() {
+        if byte.is_ascii_digit() {
+            add(u32::from(byte - b'0'));
+        } else {
+            let letter = u32::from(byte - b'A') + 10;
+            add(letter % 10);
+            add(letter / 10);
+        }
+    }
+    sum % 10 == 0
+}
+
+/// Capitals A to Z and digits, as a BIC and an ISIN are written.
+pub fn capital_or_digit(byte: u8) -> bool {
+    byte.is_ascii_uppercase() || byte.is_ascii_digit()
+}
+
+#[cfg(test)]
+mod tests {
+    use super::*;
+
+    #[test]
+    fn examples_of_document_01() {
+        assert!(sum_fits(b"XS0000000009"));
+        assert!(sum_fits(b"XS0000000017"));
+        assert!(!sum_fits(b"XS0000000008"));
+    }
+
+    #[test]
+    fn published_isins() {
+        for isin in [b"US0378331005", b"GB0002634946", b"DE000BAY0017", b"AU0000XVGZA3"] {
+            assert!(well_formed(isin) && sum_fits(isin));
+        }
+        assert!(!well_formed(b"US037833100A") && !well_formed(b"1S0378331005"));
+    }
+
+    #[test]
+    fn one_check_digit_fits_each_body() {
+        for body in [b"AA000000000", b"ZZZZZZZZZZZ", b"FR0A1B2C3D4"] {
+            let fitting = (b'0'..=b'9').filter(|&digit| {
+                let mut isin = [digit; 12];
+                isin[..11].copy_from_slice(body);
+                sum_fits(&isin)
+            });
+            assert_eq!(fitting.count(), 1);
+        }
+    }
+}

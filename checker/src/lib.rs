@@ -1,0 +1,26 @@
+//! Document 01, "Cross-CSD realignment and booking on T2S", written from its text alone. It is the
+//! oracle of the proved library and its peer in speed, and shares no line with it.
+//!
+//! The model: [`directory`] (the record), [`register`] (entries, soundness, look-ups), [`walk`],
+//! [`chain`], [`booking`], [`desk`] (single calls), [`command`], [`text`] and
+//! [`transcript`] (the program).
+//! What it is tried with: [`trial`].
+
+#![deny(unsafe_code)]
+
+pub mod booking;
+pub mod chain;
+pub mod command;
+pub mod desk;
+pub mod directory;
+pub mod isin;
+pub mod numbers;
+pub mod proved;
+pub mod refusal;
+pub mod register;
+pub mod text;
+pub mod transcript;
+pub mod trial;
+pub mod walk;
+
+pub use transcript::transcript;

@@ -1,0 +1,332 @@
+//! The proved library, linked: the desk's functions over any directory and lists of any length. The
+//! directory goes as five counts and the bytes of all rows, each row with the bytes of the command that
+//! enters it (crates/probe/src/layout.rt).
+
+use crate::booking::{Cents, Units};
+use crate::chain::{Step, STEPS};
+use crate::command::{Command, Reader};
+use crate::directory::*;
+use crate::trial::implementation::{Answer, Call, Implementation, Program, Store};
+
+/// Bytes of a row of each table.
+const WIDTHS: [usize; 5] = [12, 12, 2, 6, 7];
+const ROWS: [usize; 5] = [CSDS, SECURITIES, ACCOUNTS, PAIRS, LINKS];
+const STEP_BYTES: usize = STEPS * 5;
+/// Bytes that hold any transcript (crates/stream/src/lib.rt, ROOM).
+const ROOM: usize = 400_000;
+
+/// What an answer's number starts from, by kind.
+const KIND: u64 = 256;
+
+/// The boundary. A Rattle slice is a pointer and a length; nothing is kept after a call.
+mod boundary {
+    #![allow(unsafe_code)]
+
+    use super::*;
+
+    extern "C" {
+        fn fluzzam_enter(
+            counts: *mut usize,
+            counts_length: usize,
+            rows: *mut u8,
+            rows_length: usize,
+            tag: u8,
+            operands: *const u8,
+            operands_length: usize,
+        ) -> u64;
+        fn fluzzam_move(
+            counts: *const usize,
+            counts_length: usize,
+            rows: *const u8,
+            rows_length: usize,
+            positions: *mut i64,
+            positions_length: usize,
+            cash: *mut i64,
+            cash_length: usize,
+            tag: u8,
+            operands: *const u8,
+            operands_length: usize,
+        ) -> u64;
+        fn fluzzam_settle(
+            counts: *const usize,
+            counts_length: usize,
+            rows: *const u8,
+            rows_length: usize,
+            positions: *mut i64,
+            positions_length: usize,
+            cash: *mut i64,
+            cash_length: usize,
+            lent: usize,
+            operands: *const u8,
+            operands_length: usize,
+            steps: *mut u8,
+            steps_length: usize,
+        ) -> u64;
+        fn fluzzam_derive(
+            counts: *const usize,
+            counts_length: usize,
+            rows: *const u8,
+            rows_length: usize,
+            lent: usize,
+            operands: *const u8,
+            operands_length: usize,
+            steps: *mut u8,
+            steps_length: usize,
+        ) -> u64;
+        fn fluzzam_security_total(
+            counts: *const usize,
+            counts_length: usize,
+            rows: *const u8,
+            rows_length: usize,
+            positions: *const i64,
+            positions_length: usize,
+            security: u8,
+            sum: *mut i64,
+            sum_length: usize,
+        ) -> u64;
+        fn fluzzam_run(input: *const u8, input_length: usize, output: *mut u8, output_length: usize) -> usize;
+        fn fluzzam_cash_total(cash: *const i64, cash_length: usize, sum: *mut i64, sum_length: usize) -> u64;
+    }
+
+    // SAFETY, of each call: every pointer is that of a slice, with its length, borrowed for the call as
+    // the function takes it (shared or exclusive); `Units` and `Cents` are transparent over i64.
+
+    pub fn enter(directory: &mut Bytes, tag: u8, operands: &[u8]) -> u64 {
+        let Bytes { counts, rows } = directory;
+        unsafe {
+            fluzzam_enter(
+                counts.as_mut_ptr(),
+                counts.len(),
+                rows.as_mut_ptr(),
+                rows.len(),
+                tag,
+                operands.as_ptr(),
+                operands.len(),
+            )
+        }
+    }
+
+    pub fn move_(directory: &Bytes, positions: &mut [Units], cash: &mut [Cents], tag: u8, operands: &[u8]) -> u64 {
+        let Bytes { counts, rows } = directory;
+        unsafe {
+            fluzzam_move(
+                counts.as_ptr(),
+                counts.len(),
+                rows.as_ptr(),
+                rows.len(),
+                positions.as_mut_ptr().cast(),
+                positions.len(),
+                cash.as_mut_ptr().cast(),
+                cash.len(),
+                tag,
+                operands.as_ptr(),
+                operands.len(),
+            )
+        }
+    }
+
+    pub fn settle(
+        directory: &Bytes,
+        positions: &mut [Units],
+        cash: &mut [Cents],
+        lent: usize,
+        operands: &[u8],
+        steps: &mut [u8],
+    ) -> u64 {
+        let Bytes { counts, rows } = directory;
+        unsafe {
+            fluzzam_settle(
+                counts.as_ptr(),
+                counts.len(),
+                rows.as_ptr(),
+                rows.len(),
+                positions.as_mut_ptr().cast(),
+                positions.len(),
+                cash.as_mut_ptr().cast(),
+                cash.len(),
+                lent,
+                operands.as_ptr(),
+                operands.len(),
+                steps.as_mut_ptr(),
+                steps.len(),
+            )
+        }
+    }
+
+    pub fn derive(directory: &Bytes, lent: usize, operands: &[u8], steps: &mut [u8]) -> u64 {
+        let Bytes { counts, rows } = directory;
+        unsafe {
+            fluzzam_derive(
+                counts.as_ptr(),
+                counts.len(),
+                rows.as_ptr(),
+                rows.len(),
+                lent,
+                operands.as_ptr(),
+                operands.len(),
+                steps.as_mut_ptr(),
+                steps.len(),
+            )
+        }
+    }
+
+    pub fn security_total(directory: &Bytes, positions: &[Units], security: u8, sum: &mut [i64]) -> u64 {
+        let Bytes { counts, rows } = directory;
+        unsafe {
+            fluzzam_security_total(
+                counts.as_ptr(),
+                counts.len(),
+                rows.as_ptr(),
+                rows.len(),
+                positions.as_ptr().cast(),
+                positions.len(),
+                security,
+                sum.as_mut_ptr(),
+                sum.len(),
+            )
+        }
+    }
+
+    pub fn run(input: &[u8], output: &mut [u8]) -> usize {
+        unsafe { fluzzam_run(input.as_ptr(), input.len(), output.as_mut_ptr(), output.len()) }
+    }
+
+    pub fn cash_total(cash: &[Cents], sum: &mut [i64]) -> u64 {
+        unsafe { fluzzam_cash_total(cash.as_ptr().cast(), cash.len(), sum.as_mut_ptr(), sum.len()) }
+    }
+}
+
+/// A directory as it goes through the boundary.
+#[derive(Clone, PartialEq, Eq, Default)]
+pub struct Bytes {
+    counts: [usize; 5],
+    rows: Vec<u8>,
+}
+
+impl Bytes {
+    fn write(&mut self, directory: &Directory) {
+        let Directory { csds, securities, accounts, pairs, links } = directory;
+        self.counts = [csds.count, securities.count, accounts.count, pairs.count, links.count];
+        self.rows.clear();
+        let rows = &mut self.rows;
+        csds.rows.iter().for_each(|row| write_row(rows, Command::EnterCsd(*row)));
+        securities.rows.iter().for_each(|row| write_row(rows, Command::EnterSecurity(*row)));
+        accounts.rows.iter().for_each(|row| write_row(rows, Command::EnterAccount(*row)));
+        pairs.rows.iter().for_each(|row| write_row(rows, Command::EnterPair(*row)));
+        links.rows.iter().for_each(|row| write_row(rows, Command::EnterLink(*row)));
+    }
+
+    fn read(&self) -> Directory {
+        let mut directory = Directory::default();
+        let mut rest = &self.rows[..];
+        for (table, width) in WIDTHS.into_iter().enumerate() {
+            for number in 0..ROWS[table] {
+                let (row, behind) = rest.split_at(width);
+                rest = behind;
+                let Directory { csds, securities, accounts, pairs, links } = &mut directory;
+                match read_row(table as u8 + 1, row) {
+                    Command::EnterCsd(row) => csds.rows[number] = row,
+                    Command::EnterSecurity(row) => securities.rows[number] = row,
+                    Command::EnterAccount(row) => accounts.rows[number] = row,
+                    Command::EnterPair(row) => pairs.rows[number] = row,
+                    Command::EnterLink(row) => links.rows[number] = row,
+                    _ => unreachable!("codes 1 to 5 are entries"),
+                }
+            }
+        }
+        let [csds, securities, accounts, pairs, links] = self.counts;
+        directory.csds.count = csds;
+        directory.securities.count = securities;
+        directory.accounts.count = accounts;
+        directory.pairs.count = pairs;
+        directory.links.count = links;
+        directory
+    }
+}
+
+/// The operands of the command that enters the row.
+fn write_row(rows: &mut Vec<u8>, entry: Command) {
+    let start = rows.len();
+    entry.write(rows);
+    rows.remove(start);
+}
+
+fn read_row(code: u8, operands: &[u8]) -> Command {
+    let mut bytes = [code; 13];
+    bytes[1..=operands.len()].copy_from_slice(operands);
+    Reader::new(&bytes).command().expect("a row has all the operands of its command")
+}
+
+/// The proved library.
+#[derive(Default)]
+pub struct Proved {
+    directory: Bytes,
+    before: Bytes,
+    command: Vec<u8>,
+    output: Vec<u8>,
+}
+
+impl Program for Proved {
+    fn transcript(&mut self, input: &[u8]) -> Vec<u8> {
+        self.output.resize(ROOM, 0);
+        let length = boundary::run(input, &mut self.output);
+        self.output[..length].to_vec()
+    }
+}
+
+impl Implementation for Proved {
+    fn call(&mut self, store: &mut Store, call: &Call) -> Answer {
+        let mut sum = [0];
+        let mut chain = [0; STEP_BYTES];
+        self.directory.write(&store.directory);
+        self.before.clone_from(&self.directory);
+        let directory = &mut self.directory;
+        let Store { positions, cash, steps, .. } = store;
+        let code = match call {
+            Call::Total { security } => boundary::security_total(directory, positions, *security, &mut sum),
+            Call::CashTotal => boundary::cash_total(cash, &mut sum),
+            Call::Command(command) => {
+                self.command.clear();
+                command.write(&mut self.command);
+                let (tag, operands) = (self.command[0], &self.command[1..]);
+                match command {
+                    Command::Settle { .. } => {
+                        boundary::settle(directory, positions, cash, steps.len(), operands, &mut chain)
+                    }
+                    Command::Derive { .. } => boundary::derive(directory, steps.len(), operands, &mut chain),
+                    Command::BringIn { .. } | Command::TakeOut { .. } | Command::PayIn { .. } | Command::PayOut { .. } => {
+                        boundary::move_(directory, positions, cash, tag, operands)
+                    }
+                    _ => boundary::enter(directory, tag, operands),
+                }
+            }
+        };
+        if self.directory != self.before {
+            store.directory = self.directory.read();
+        }
+        let answer = answer(code, sum[0]);
+        if let Answer::Booked(length) | Answer::Chain(length) = answer {
+            for (step, bytes) in store.steps.iter_mut().zip(chain.chunks_exact(5)).take(length) {
+                *step = read_step(bytes);
+            }
+        }
+        answer
+    }
+}
+
+fn answer(code: u64, sum: i64) -> Answer {
+    let number = code % KIND;
+    match code / KIND {
+        0 => Answer::Accepted,
+        1 => Answer::Booked(number as usize),
+        2 => Answer::Chain(number as usize),
+        3 => Answer::Refused(number as u8),
+        4 => Answer::Sum(sum),
+        _ => panic!("the buffers do not fit the proved library's"),
+    }
+}
+
+fn read_step(bytes: &[u8]) -> Step {
+    let account = |place: usize| u16::from_be_bytes([bytes[place], bytes[place + 1]]);
+    Step { csd: bytes[0], debit: account(1), credit: account(3) }
+}

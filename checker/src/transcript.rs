@@ -1,0 +1,116 @@
+//! The program: a stream of commands over an empty store, and the text it prints.
+
+use crate::booking::{cash_total, Cash, Cents, Direction, Positions, Units};
+use crate::chain::Steps;
+use crate::command::{Command, Reader};
+use crate::directory::{ACCOUNTS, SECURITIES};
+use crate::refusal::Refusal;
+use crate::register::Register;
+use crate::text::Text;
+
+/// "Above 65,536 bytes it prints `too long` only."
+pub const INPUT_LIMIT: usize = 65_536;
+
+/// What an accepted command answers.
+pub enum Done {
+    Accepted,
+    Booked(Steps),
+    Chain(Steps),
+}
+
+/// A directory, its positions and its cash, started empty and changed by commands only. Its
+/// directory is therefore sound and its lists have their lengths, and neither is tested again.
+pub struct Session {
+    register: Register,
+    positions: Box<Positions>,
+    cash: Box<Cash>,
+}
+
+impl Default for Session {
+    fn default() -> Self {
+        Session {
+            register: Register::default(),
+            positions: Box::new([Units(0); ACCOUNTS * SECURITIES]),
+            cash: Box::new([Cents(0); ACCOUNTS]),
+        }
+    }
+}
+
+impl Session {
+    pub fn register(&self) -> &Register {
+        &self.register
+    }
+
+    pub fn positions(&self) -> &Positions {
+        &self.positions
+    }
+
+    pub fn cash(&self) -> &Cash {
+        &self.cash
+    }
+
+    pub fn execute(&mut self, command: &Command) -> Result<Done, Refusal> {
+        let Session { register, positions, cash } = self;
+        match *command {
+            Command::EnterCsd(row) => register.enter_csd(row)?,
+            Command::EnterSecurity(row) => register.enter_security(row)?,
+            Command::EnterAccount(row) => register.enter_account(row)?,
+            Command::EnterPair(row) => register.enter_pair(row)?,
+            Command::EnterLink(row) => register.enter_link(row)?,
+            Command::BringIn { account, security, quantity } => {
+                register.move_securities(positions, Direction::In, account, security, quantity)?
+            }
+            Command::TakeOut { account, security, quantity } => {
+                register.move_securities(positions, Direction::Out, account, security, quantity)?
+            }
+            Command::PayIn { account, amount } => register.move_cash(cash, Direction::In, account, amount)?,
+            Command::PayOut { account, amount } => register.move_cash(cash, Direction::Out, account, amount)?,
+            Command::Settle { delivering, receiving } => {
+                return register.settle(positions, cash, &delivering, &receiving).map(Done::Booked)
+            }
+            Command::Derive { delivering, receiving } => {
+                return register.derive_halves(&delivering, &receiving).map(Done::Chain)
+            }
+        }
+        Ok(Done::Accepted)
+    }
+
+    fn print_totals(&self, text: &mut Text) {
+        for (number, security) in self.register.directory().securities.rows.iter().enumerate() {
+            if let Ok(sum) = self.register.total(&self.positions, number as u8) {
+                text.total(&security.isin, sum);
+            }
+        }
+        if let Ok(sum) = cash_total(&self.cash) {
+            text.cash(sum);
+        }
+    }
+}
+
+/// All that `realign` prints for an input.
+pub fn transcript(input: &[u8]) -> Vec<u8> {
+    let mut text = Text::default();
+    if input.len() > INPUT_LIMIT {
+        text.too_long();
+        return text.bytes;
+    }
+    let mut session = Session::default();
+    let mut reader = Reader::new(input);
+    let mut number = 0;
+    while reader.peek().is_some() {
+        number += 1;
+        match reader.command().and_then(|command| session.execute(&command)) {
+            Ok(Done::Accepted) => text.accepted(number),
+            Ok(Done::Booked(steps)) => text.chain(number, b" booked ", &steps),
+            Ok(Done::Chain(steps)) => text.chain(number, b" chain ", &steps),
+            Err(refusal) => {
+                text.refused(number, refusal.number());
+                if matches!(refusal, Refusal::UnknownCommand | Refusal::CutShort) {
+                    break;
+                }
+            }
+        }
+    }
+    session.print_totals(&mut text);
+    text.bytes
+}

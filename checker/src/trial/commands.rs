@@ -1,0 +1,204 @@
+//! Random commands over a directory: mostly sensible ones, so that they get far, and damaged ones, so
+//! that they are refused in every place.
+
+use super::random::Random;
+use super::scenario::{halves, with_check_digit};
+use crate::booking::{Cents, Half, Units};
+use crate::command::{Command, Reader};
+use crate::directory::*;
+use crate::register::Register;
+
+/// How often each command is drawn.
+const CODES: [u8; 24] = [
+    0x01, 0x02, 0x02, 0x03, 0x04, 0x04, 0x05, 0x05, 0x05, 0x06, 0x06, 0x07, 0x07, 0x08, 0x09, 0x0A, 0x0A, 0x0A, 0x0A,
+    0x0A, 0x0B, 0x0B, 0x0B, 0x0B,
+];
+
+pub fn command(random: &mut Random, directory: &Directory) -> Command {
+    let code = random.pick(&CODES);
+    command_of(code, random, directory)
+}
+
+/// A row of any table.
+pub fn entry(random: &mut Random, directory: &Directory) -> Command {
+    let code = random.between(1, 5) as u8;
+    command_of(code, random, directory)
+}
+
+fn command_of(code: u8, random: &mut Random, directory: &Directory) -> Command {
+    let mut draw = Draw { random, directory };
+    let command = match code {
+        0x01 => Command::EnterCsd(draw.csd_row()),
+        0x02 => Command::EnterSecurity(draw.security_row()),
+        0x03 => Command::EnterAccount(draw.account_row()),
+        0x04 => Command::EnterPair(draw.pair_row()),
+        0x05 => Command::EnterLink(draw.link_row()),
+        0x06 => Command::BringIn { account: draw.participant(), security: draw.security(), quantity: draw.units() },
+        0x07 => Command::TakeOut { account: draw.participant(), security: draw.security(), quantity: draw.units() },
+        0x08 => Command::PayIn { account: draw.participant(), amount: draw.cents() },
+        0x09 => Command::PayOut { account: draw.participant(), amount: draw.cents() },
+        0x0A => draw.halves(|delivering, receiving| Command::Settle { delivering, receiving }),
+        _ => draw.halves(|delivering, receiving| Command::Derive { delivering, receiving }),
+    };
+    if random.percent(20) {
+        damaged(random, command)
+    } else {
+        command
+    }
+}
+
+/// The command with one operand byte, or two neighbours, replaced.
+pub fn damaged(random: &mut Random, command: Command) -> Command {
+    let mut bytes = Vec::new();
+    command.write(&mut bytes);
+    let place = random.between(1, bytes.len() - 1);
+    bytes[place] = match random.below(5) {
+        0 => 0xFF,
+        1 => bytes[place].wrapping_add(1),
+        2 => bytes[place].wrapping_sub(1),
+        3 => random.pick(&[0, 1, 2, 5, 16, 32]),
+        _ => random.byte(),
+    };
+    if random.percent(25) && place + 1 < bytes.len() {
+        bytes[place + 1] = bytes[place];
+    }
+    Reader::new(&bytes).command().expect("a whole command of a known byte")
+}
+
+struct Draw<'a> {
+    random: &'a mut Random,
+    directory: &'a Directory,
+}
+
+impl Draw<'_> {
+    fn accounts(&self) -> &[Account] {
+        self.directory.accounts.entered().unwrap_or(&self.directory.accounts.rows)
+    }
+
+    /// A number of a row, seldom one beyond.
+    fn number(&mut self, count: usize) -> usize {
+        if count == 0 || self.random.percent(2) {
+            return self.random.pick(&[count, count + 1, 0xFF, 0xFFFF, 0]);
+        }
+        self.random.below(count)
+    }
+
+    fn is_external(&self, csd: u8) -> bool {
+        self.directory.csds.get(usize::from(csd)).is_some_and(|row| row.kind == EXTERNAL)
+    }
+
+    fn csd(&mut self) -> u8 {
+        self.number(self.directory.csds.count.min(CSDS)) as u8
+    }
+
+    fn security(&mut self) -> u8 {
+        self.number(self.directory.securities.count.min(SECURITIES)) as u8
+    }
+
+    /// An account that fits, if there is one, or any.
+    fn account(&mut self, fits: impl Fn(u16, &Account) -> bool) -> u16 {
+        let fitting = |(number, row): (usize, &Account)| fits(number as u16, row).then_some(number as u16);
+        let numbers: Vec<u16> = self.accounts().iter().enumerate().filter_map(fitting).collect();
+        if numbers.is_empty() || self.random.percent(3) {
+            return self.number(self.directory.accounts.count.min(ACCOUNTS)) as u16;
+        }
+        self.random.pick(&numbers)
+    }
+
+    fn participant(&mut self) -> u16 {
+        self.account(|_, row| row.kind == PARTICIPANT)
+    }
+
+    fn value(&mut self) -> i64 {
+        if self.random.percent(5) {
+            self.random.any_number()
+        } else {
+            self.random.some_number()
+        }
+    }
+
+    fn units(&mut self) -> Units {
+        Units(self.value())
+    }
+
+    fn cents(&mut self) -> Cents {
+        Cents(self.value())
+    }
+
+    fn capital_or_digit(&mut self) -> u8 {
+        self.random.pick(b"ABCDEFGHIJKLMNOPQRSTUVWXYZ0123456789")
+    }
+
+    fn csd_row(&mut self) -> Csd {
+        let mut bic = std::array::from_fn(|_| self.capital_or_digit());
+        if self.random.percent(30) {
+            let other = self.directory.csds.rows[self.random.below(CSDS)].bic;
+            bic[..8].copy_from_slice(&other[..8]);
+        }
+        Csd { kind: self.random.pick(&[IN_T2S, IN_T2S, EXTERNAL]), bic }
+    }
+
+    fn security_row(&mut self) -> Security {
+        let mut isin: Isin = std::array::from_fn(|_| self.capital_or_digit());
+        isin[0] = self.random.pick(b"ADFXZ");
+        isin[1] = self.random.pick(b"AEISZ");
+        match self.random.below(8) {
+            0 => Security { isin: self.directory.securities.rows[self.random.below(SECURITIES)].isin },
+            1 => Security { isin },
+            2 => Security { isin: [&isin[..11], &[self.random.pick(b"0123456789")]].concat().try_into().unwrap() },
+            _ => Security { isin: with_check_digit(isin) },
+        }
+    }
+
+    fn account_row(&mut self) -> Account {
+        Account { csd: self.csd(), kind: self.random.pick(&[PARTICIPANT, OMNIBUS, MIRROR, INTER_CSD, ISSUANCE]) }
+    }
+
+    fn pair_row(&mut self) -> Pair {
+        let investor = self.csd();
+        let technical = if self.random.percent(10) { investor } else { self.csd() };
+        let external = self.is_external(technical);
+        let pairs = self.directory.pairs.entered().unwrap_or_default();
+        let free = |number| !pairs.iter().any(|row| row.investor_account == number || row.technical_account == number);
+        let fresh = self.random.percent(85);
+        let mut fitting =
+            |csd, kind| self.account(|number, row| *row == Account { csd, kind } && (!fresh || free(number)));
+        if external {
+            let investor_account = fitting(investor, INTER_CSD);
+            let technical_account = if self.random.percent(90) { NO_ACCOUNT } else { self.account(|_, _| true) };
+            Pair { investor, technical, investor_account, technical_account }
+        } else {
+            let (investor_account, technical_account) = (fitting(investor, MIRROR), fitting(technical, OMNIBUS));
+            Pair { investor, technical, investor_account, technical_account }
+        }
+    }
+
+    fn link_row(&mut self) -> Link {
+        let (security, csd) = (self.security(), self.csd());
+        let external = self.is_external(csd);
+        if self.random.percent(30) {
+            let account =
+                if external { NO_ACCOUNT } else { self.account(|_, row| *row == Account { csd, kind: ISSUANCE }) };
+            return Link { security, kind: ISSUER, csd, technical: NO_CSD, flag: DEFAULT, account };
+        }
+        let links = self.directory.links.entered().unwrap_or_default();
+        let linked = links.iter().any(|row| row.security == security && row.csd == csd);
+        let flag = if linked != self.random.percent(10) { ALTERNATIVE } else { DEFAULT };
+        Link { security, kind: INVESTOR, csd, technical: self.csd(), flag, account: NO_ACCOUNT }
+    }
+
+    /// Halves that go together, mostly between accounts with a chain.
+    fn halves(&mut self, command: impl Fn(Half, Half) -> Command) -> Command {
+        let register = Register::of(self.directory);
+        let amount = if self.random.percent(50) { 0 } else { self.value() };
+        let quantity = self.value();
+        loop {
+            let (from, to, security) = (self.participant(), self.participant(), self.security());
+            let (delivering, receiving) = halves(self.directory, from, to, security, quantity, amount);
+            let chain = register.as_ref().is_ok_and(|register| register.derive_halves(&delivering, &receiving).is_ok());
+            if chain || self.random.percent(30) {
+                return command(delivering, receiving);
+            }
+        }
+    }
+}

@@ -1,0 +1,151 @@
+//! Counters of what random inputs reached, and the tables of what document 01 lets occur.
+
+use std::collections::BTreeMap;
+use std::fmt::{self, Display, Formatter};
+use std::ops::RangeInclusive;
+
+use super::implementation::{Answer, Call};
+use super::literal::ChainKind;
+use crate::command::Command;
+
+/// A command's name with the refusals that it can give in a stream, and those that it can give as a
+/// single call besides. Over a store reached from empty a pay-out never ends beyond the bound.
+pub const COMMANDS: [(&str, &[u8], &[u8]); 11] = [
+    ("enter CSD", &[2, 5, 7, 9], &[4]),
+    ("enter security", &[2, 5, 7, 8, 9], &[4]),
+    ("enter account", &[2, 5, 6, 7, 10], &[4]),
+    ("enter pair", &[2, 5, 6, 9, 10, 11], &[4]),
+    ("enter link", &[2, 5, 6, 7, 9, 10, 11], &[4]),
+    ("bring in", &[2, 6, 7, 10, 19, 22], &[3, 4]),
+    ("take out", &[2, 6, 7, 10, 19, 20, 22], &[3, 4]),
+    ("pay in", &[2, 6, 7, 10, 22], &[3, 4]),
+    ("pay out", &[2, 6, 7, 10, 21], &[3, 4, 22]),
+    ("settle", &[2, 6, 7, 10, 12, 13, 14, 15, 16, 17, 18, 20, 21, 22], &[3, 4]),
+    ("derive", &[2, 6, 7, 10, 12, 13, 14, 15, 16, 17, 18], &[3, 4]),
+];
+
+/// The flaws that make a directory unsound, by table: 5 is a count beyond the limit.
+pub const FLAWS: [(&str, &[u8]); 5] = [
+    ("CSDs", &[5, 7, 9]),
+    ("securities", &[5, 7, 8, 9]),
+    ("accounts", &[5, 6, 7, 10]),
+    ("pairs", &[5, 6, 9, 10, 11]),
+    ("links", &[5, 6, 7, 9, 10, 11]),
+];
+
+/// The refusals of the calls that no stream can command.
+pub const TOTALS: [(&str, &[u8]); 2] = [("total", &[3, 4, 6, 22]), ("cash total", &[3, 22])];
+
+/// A byte that is no command.
+pub const UNKNOWN: &str = "unknown byte";
+
+/// The lengths that a chain of each kind can have.
+pub const LENGTHS: [(ChainKind, RangeInclusive<usize>); 7] = [
+    (ChainKind::OneCsd, 1..=1),
+    (ChainKind::SharedInside, 2..=15),
+    (ChainKind::SharedOutside, 2..=13),
+    (ChainKind::DirectedFromDelivering, 2..=8),
+    (ChainKind::DirectedFromReceiving, 2..=8),
+    (ChainKind::TwoIssuers, 2..=16),
+    (ChainKind::BothOutside, 2..=14),
+];
+
+/// What was seen, with how often.
+#[derive(Default)]
+pub struct Coverage {
+    answers: BTreeMap<(&'static str, u8), u64>,
+    flaws: BTreeMap<(&'static str, u8), u64>,
+    chains: BTreeMap<(&'static str, ChainKind, usize), u64>,
+}
+
+/// The name of a command by its byte.
+pub fn command_name(code: u8) -> &'static str {
+    usize::from(code).checked_sub(1).and_then(|index| COMMANDS.get(index)).map_or(UNKNOWN, |row| row.0)
+}
+
+pub fn call_name(call: &Call) -> &'static str {
+    match call {
+        Call::Command(command) => command_name(command.code()),
+        Call::Total { .. } => TOTALS[0].0,
+        Call::CashTotal => TOTALS[1].0,
+    }
+}
+
+impl Coverage {
+    /// Counts an answer; 0 stands for acceptance.
+    pub fn answer(&mut self, name: &'static str, answer: &Answer) {
+        let number = if let Answer::Refused(number) = answer { *number } else { 0 };
+        *self.answers.entry((name, number)).or_default() += 1;
+    }
+
+    /// Counts the flaw of a directory that was found unsound.
+    pub fn flaw(&mut self, table: &'static str, number: u8) {
+        *self.flaws.entry((table, number)).or_default() += 1;
+    }
+
+    pub fn chain(&mut self, command: &Command, kind: ChainKind, length: usize) {
+        *self.chains.entry((command_name(command.code()), kind, length)).or_default() += 1;
+    }
+
+    pub fn answers(&self) -> u64 {
+        self.answers.values().sum()
+    }
+
+    /// What streams must have reached and have not, or have reached and must not.
+    pub fn of_streams(&self) -> Vec<String> {
+        let expected = COMMANDS.iter().flat_map(|&(name, refusals, _)| numbered(name, &[refusals, &[0]].concat()));
+        let wrong = compare(&self.answers, expected.chain([(UNKNOWN, 1)]).collect());
+        [wrong, self.chains_missing()].concat()
+    }
+
+    /// The same for single calls.
+    pub fn of_calls(&self) -> Vec<String> {
+        let commands = COMMANDS.iter().flat_map(|&(name, refusals, besides)| {
+            let refusals: Vec<u8> = refusals.iter().copied().filter(|&number| number > 2).collect();
+            numbered(name, &[&refusals, besides, &[0]].concat())
+        });
+        let totals = TOTALS.iter().flat_map(|&(name, refusals)| numbered(name, &[refusals, &[0]].concat()));
+        let flaws = FLAWS.iter().flat_map(|&(table, numbers)| numbered(table, numbers));
+        [compare(&self.answers, commands.chain(totals).collect()), compare(&self.flaws, flaws.collect())].concat()
+    }
+
+    fn chains_missing(&self) -> Vec<String> {
+        let names = [command_name(0x0A), command_name(0x0B)];
+        let possible = LENGTHS.iter().flat_map(|(kind, lengths)| lengths.clone().map(|length| (*kind, length)));
+        let possible: Vec<_> =
+            names.iter().flat_map(|&name| possible.clone().map(move |(k, n)| (name, k, n))).collect();
+        let missing = possible.iter().filter(|key| !self.chains.contains_key(*key));
+        let missing = missing.map(|(name, kind, length)| format!("{name}: no {kind:?} of {length} steps"));
+        let strange = self.chains.keys().filter(|key| !possible.contains(key));
+        missing.chain(strange.map(|(name, kind, length)| format!("{name}: a {kind:?} of {length} steps"))).collect()
+    }
+}
+
+/// What is missing of the expected, and what is seen besides.
+fn compare(seen: &BTreeMap<(&'static str, u8), u64>, expected: Vec<(&'static str, u8)>) -> Vec<String> {
+    let missing = expected.iter().filter(|key| !seen.contains_key(*key));
+    let missing = missing.map(|(name, number)| format!("{name}: {number} never seen"));
+    let strange = seen.keys().filter(|key| !expected.contains(key));
+    let strange = strange.map(|(name, number)| format!("{name}: {number} seen, though it cannot occur"));
+    missing.chain(strange).collect()
+}
+
+fn numbered(name: &'static str, numbers: &[u8]) -> Vec<(&'static str, u8)> {
+    numbers.iter().map(|&number| (name, number)).collect()
+}
+
+impl Display for Coverage {
+    fn fmt(&self, formatter: &mut Formatter) -> fmt::Result {
+        for ((name, number), times) in &self.answers {
+            let answer = if *number == 0 { "accepted".into() } else { format!("no {number}") };
+            writeln!(formatter, "{name:16} {answer:9} {times:9}")?;
+        }
+        for ((table, number), times) in &self.flaws {
+            writeln!(formatter, "unsound by {table}: {number:3} {times:9}")?;
+        }
+        for ((name, kind, length), times) in &self.chains {
+            writeln!(formatter, "{name:16} {kind:?} of {length}: {times}")?;
+        }
+        Ok(())
+    }
+}

@@ -1,0 +1,257 @@
+//! One random trial of an implementation: everything it answers and leaves is held against the model,
+//! and a list of calls against demand 3. An error says what differs; the seed repeats it.
+
+use super::balances::Balances;
+use super::calls;
+use super::coverage::{call_name, command_name, Coverage};
+use super::implementation::{copy, Answer, Call, Implementation, Model, Program, Store};
+use super::literal::Rows;
+use super::random::Random;
+use super::streams;
+use crate::chain::{Step, STEPS};
+use crate::command::{Command, Reader};
+use crate::refusal::Refusal;
+use crate::register::Register;
+use crate::text::Text;
+
+/// The seed's stream.
+pub fn stream(
+    seed: u64,
+    subject: &mut (impl Implementation + Program),
+    coverage: &mut Coverage,
+) -> Result<(), String> {
+    stream_of(&streams::stream(seed), seed, subject, coverage)
+}
+
+/// A stream as bytes, and the same commands one by one as a list of calls from the empty store. The seed
+/// draws the step lists that these calls are lent.
+pub fn stream_of(
+    bytes: &[u8],
+    seed: u64,
+    subject: &mut (impl Implementation + Program),
+    coverage: &mut Coverage,
+) -> Result<(), String> {
+    text_of(bytes, subject)?;
+    list_of(bytes, seed, subject, coverage)
+}
+
+/// A stream as bytes.
+pub fn text_of(bytes: &[u8], subject: &mut impl Program) -> Result<(), String> {
+    let printed = subject.transcript(bytes);
+    same_text(&crate::transcript(bytes), &printed).map_err(|line| format!("transcript, {line}"))
+}
+
+/// A stream's commands as a list of calls.
+pub fn list_of(
+    bytes: &[u8],
+    seed: u64,
+    subject: &mut impl Implementation,
+    coverage: &mut Coverage,
+) -> Result<(), String> {
+    let listed = list_of_calls(bytes, seed, subject, coverage)?;
+    same_text(&crate::transcript(bytes), &listed).map_err(|line| format!("list of calls, {line}"))
+}
+
+/// A stream that fails as well, without the commands that it does not need for that.
+pub fn shortened(bytes: &[u8], mut fails: impl FnMut(&[u8]) -> bool) -> Vec<u8> {
+    let mut reader = Reader::new(bytes);
+    let mut pieces = Vec::new();
+    while let Ok(command) = reader.command() {
+        let mut piece = Vec::new();
+        command.write(&mut piece);
+        pieces.push(piece);
+    }
+    pieces.push(bytes[pieces.concat().len()..].to_vec());
+    for place in (0..pieces.len()).rev() {
+        let piece = std::mem::take(&mut pieces[place]);
+        if !fails(&pieces.concat()) {
+            pieces[place] = piece;
+        }
+    }
+    pieces.concat()
+}
+
+/// Random calls over one random store.
+pub fn calls(seed: u64, subject: &mut impl Implementation, coverage: &mut Coverage) -> Result<(), String> {
+    let mut random = Random::new(seed);
+    let mut store = calls::store(&mut random);
+    let (mut other, mut before) = (store.clone(), store.clone());
+    let mut unsound = 0;
+    for number in 1..=24 {
+        let (call, steps) = calls::call(&mut random, &store);
+        store.steps = steps;
+        copy(&store, &mut before);
+        other.steps.clone_from(&store.steps);
+        let expected = Model.call(&mut store, &call);
+        let answer = subject.call(&mut other, &call);
+        let place = |text: String| format!("call {number}, {call:?}: {text}");
+        if answer != expected {
+            return Err(place(format!("{answer:?}, not {expected:?}")));
+        }
+        if let Some(part) = difference(&store, &other) {
+            return Err(place(format!("{expected:?}, but another {part}")));
+        }
+        if matches!(answer, Answer::Refused(_)) && other != before {
+            return Err(place("refused, but something changed".into()));
+        }
+        coverage.answer(call_name(&call), &answer);
+        if matches!(answer, Answer::Booked(_) | Answer::Chain(_) | Answer::Refused(14..=18)) {
+            let rows = Rows::from(&before.directory);
+            same_chain(&rows, &call, &answer, &other.steps, coverage).map_err(place)?;
+        }
+        if answer == Answer::Refused(Refusal::NotSound.number()) {
+            let flaw = Register::replay(&before.directory).err();
+            let (table, refusal) = flaw.ok_or_else(|| place("refused 4 over a sound directory".into()))?;
+            coverage.flaw(table, refusal.number());
+            unsound += 1;
+        }
+        if unsound == 3 {
+            break;
+        }
+    }
+    Ok(())
+}
+
+/// Runs a stream's commands as calls, each handed what the last one left, and prints as the program does.
+fn list_of_calls(
+    bytes: &[u8],
+    seed: u64,
+    subject: &mut impl Implementation,
+    coverage: &mut Coverage,
+) -> Result<Vec<u8>, String> {
+    let mut random = Random::new(seed);
+    let mut reader = Reader::new(bytes);
+    let mut store = Store::empty();
+    let mut balances = Balances::default();
+    let mut text = Text::default();
+    let mut number = 0;
+    while let Some(code) = reader.peek() {
+        number += 1;
+        let place = |text: String| format!("command {number}: {text}");
+        let command = match reader.command() {
+            Ok(command) => command,
+            Err(refusal) => {
+                coverage.answer(command_name(code), &Answer::Refused(refusal.number()));
+                text.refused(number, refusal.number());
+                break;
+            }
+        };
+        let call = Call::Command(command);
+        lend_steps(&mut random, &mut store, subject, &call).map_err(place)?;
+        let answer = subject.call(&mut store, &call);
+        coverage.answer(command_name(code), &answer);
+        same_chain(&balances.rows, &call, &answer, &store.steps, coverage).map_err(place)?;
+        balances.after(&call, &answer, &store).map_err(place)?;
+        print(&mut text, number, &answer, &store.steps)?;
+    }
+    print_totals(&mut text, &mut store, subject)?;
+    if store.directory != balances.rows.record() {
+        return Err("another directory than the accepted rows make".into());
+    }
+    Ok(text.bytes)
+}
+
+/// Lends a call steps enough. A list too short is tried first where chance has it so, and must be
+/// refused without a trace.
+fn lend_steps(
+    random: &mut Random,
+    store: &mut Store,
+    subject: &mut impl Implementation,
+    call: &Call,
+) -> Result<(), String> {
+    store.steps = calls::steps(random);
+    let lent_steps = matches!(call, Call::Command(Command::Settle { .. } | Command::Derive { .. }));
+    if store.steps.len() < STEPS {
+        if lent_steps {
+            let before = store.clone();
+            if subject.call(store, call) != Answer::Refused(Refusal::LentList.number()) || *store != before {
+                return Err(format!("not refused with {} steps lent", before.steps.len()));
+            }
+        }
+        store.steps.resize(STEPS, Step::default());
+    }
+    Ok(())
+}
+
+/// The steps of a chain are those of the literal reading, which also tells its kind.
+fn same_chain(
+    rows: &Rows,
+    call: &Call,
+    answer: &Answer,
+    steps: &[Step],
+    coverage: &mut Coverage,
+) -> Result<(), String> {
+    let Call::Command(
+        command @ (Command::Settle { delivering, receiving } | Command::Derive { delivering, receiving }),
+    ) = call
+    else {
+        return Ok(());
+    };
+    let chain = |rows: &Rows| rows.chain(delivering.security, delivering.account, receiving.account);
+    match answer {
+        Answer::Booked(length) | Answer::Chain(length) => {
+            let (kind, expected) = chain(rows).map_err(|number| format!("a chain, where {number} is due"))?;
+            if steps.get(..*length) != Some(&expected[..]) {
+                return Err(format!("steps {:?}, not {expected:?}", steps.get(..*length)));
+            }
+            coverage.chain(command, kind, *length);
+            Ok(())
+        }
+        Answer::Refused(number @ 14..=18) if chain(rows).err() != Some(*number) => {
+            Err(format!("refused {number}, where {:?} is due", chain(rows)))
+        }
+        _ => Ok(()),
+    }
+}
+
+fn print(text: &mut Text, number: u64, answer: &Answer, steps: &[Step]) -> Result<(), String> {
+    match *answer {
+        Answer::Accepted => text.accepted(number),
+        Answer::Booked(length) => text.chain(number, b" booked ", &steps[..length]),
+        Answer::Chain(length) => text.chain(number, b" chain ", &steps[..length]),
+        Answer::Refused(refusal) => text.refused(number, refusal),
+        Answer::Sum(_) => return Err(format!("{answer:?} to a command")),
+    }
+    Ok(())
+}
+
+fn print_totals(text: &mut Text, store: &mut Store, subject: &mut impl Implementation) -> Result<(), String> {
+    for number in 0..store.directory.securities.count {
+        let Answer::Sum(sum) = subject.call(store, &Call::Total { security: number as u8 }) else {
+            return Err(format!("no total of security {number}"));
+        };
+        text.total(&store.directory.securities.rows[number].isin, sum);
+    }
+    let Answer::Sum(sum) = subject.call(store, &Call::CashTotal) else {
+        return Err("no total of cash".into());
+    };
+    text.cash(sum);
+    Ok(())
+}
+
+/// The first line in which two texts differ, if any.
+fn same_text(expected: &[u8], printed: &[u8]) -> Result<(), String> {
+    if expected == printed {
+        return Ok(());
+    }
+    let (mut due, mut lines) = (expected.split(|&byte| byte == b'\n'), printed.split(|&byte| byte == b'\n'));
+    for number in 1.. {
+        let (due, line) = (due.next(), lines.next());
+        if due != line {
+            let show = |line: Option<&[u8]>| line.map(|line| String::from_utf8_lossy(line).into_owned());
+            return Err(format!("line {number}: {:?}, not {:?}", show(line), show(due)));
+        }
+    }
+    Ok(())
+}
+
+/// The part in which two stores differ.
+fn difference(one: &Store, other: &Store) -> Option<&'static str> {
+    let parts = [
+        ("directory", one.directory == other.directory),
+        ("list of positions", one.positions == other.positions),
+        ("list of cash", one.cash == other.cash),
+        ("list of steps", one.steps == other.steps),
+    ];
+    parts.iter().find(|(_, same)| !same).map(|&(part, _)| part)
+}

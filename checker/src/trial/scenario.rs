@@ -1,0 +1,158 @@
+//! A stream in the making: commands are written down and carried out by the model at once, so that
+//! what comes next can go by what was accepted.
+
+use crate::booking::{Cents, Half, Units};
+use crate::command::Command;
+use crate::directory::*;
+use crate::isin;
+use crate::refusal::Refusal;
+use crate::transcript::{Done, Session};
+
+#[derive(Default)]
+pub struct Scenario {
+    pub bytes: Vec<u8>,
+    pub session: Session,
+}
+
+impl Scenario {
+    pub fn directory(&self) -> &Directory {
+        self.session.register().directory()
+    }
+
+    pub fn send(&mut self, command: Command) -> Result<Done, Refusal> {
+        command.write(&mut self.bytes);
+        self.session.execute(&command)
+    }
+
+    /// Enters a CSD and gives its number.
+    pub fn csd(&mut self, kind: u8) -> u8 {
+        let number = self.directory().csds.count;
+        let _ = self.send(Command::EnterCsd(Csd { kind, bic: bic(number) }));
+        number as u8
+    }
+
+    /// Enters a security and gives its number.
+    pub fn security(&mut self) -> u8 {
+        let number = self.directory().securities.count;
+        let _ = self.send(Command::EnterSecurity(Security { isin: isin_of(number) }));
+        number as u8
+    }
+
+    /// Opens an account and gives its number.
+    pub fn account(&mut self, csd: u8, kind: u8) -> u16 {
+        let number = self.directory().accounts.count;
+        let _ = self.send(Command::EnterAccount(Account { csd, kind }));
+        number as u16
+    }
+
+    /// The first account of a CSD and kind, opened where there is none.
+    pub fn own_account(&mut self, csd: u8, kind: u8) -> u16 {
+        let rows = self.directory().accounts.entered().unwrap_or_default();
+        match rows.iter().position(|row| *row == Account { csd, kind }) {
+            Some(number) => number as u16,
+            None => self.account(csd, kind),
+        }
+    }
+
+    pub fn participant(&mut self, csd: u8) -> u16 {
+        self.own_account(csd, PARTICIPANT)
+    }
+
+    pub fn is_external(&self, csd: u8) -> bool {
+        self.directory().csds.get(usize::from(csd)).is_some_and(|row| row.kind == EXTERNAL)
+    }
+
+    /// Opens the accounts of an investor CSD and a technical issuer and enters their pair, unless it is
+    /// there.
+    pub fn pair(&mut self, investor: u8, technical: u8) {
+        let rows = self.directory().pairs.entered().unwrap_or_default();
+        if rows.iter().any(|row| row.investor == investor && row.technical == technical) {
+            return;
+        }
+        let (investor_account, technical_account) = if self.is_external(technical) {
+            (self.account(investor, INTER_CSD), NO_ACCOUNT)
+        } else {
+            (self.account(investor, MIRROR), self.account(technical, OMNIBUS))
+        };
+        let _ = self.send(Command::EnterPair(Pair { investor, technical, investor_account, technical_account }));
+    }
+
+    /// Enters an issuer link, with an issuance account of its own where the CSD is in T2S.
+    pub fn issuer(&mut self, security: u8, csd: u8) {
+        let account = if self.is_external(csd) { NO_ACCOUNT } else { self.own_account(csd, ISSUANCE) };
+        let link = Link { security, kind: ISSUER, csd, technical: NO_CSD, flag: DEFAULT, account };
+        let _ = self.send(Command::EnterLink(link));
+    }
+
+    /// Enters an investor link.
+    pub fn link(&mut self, security: u8, csd: u8, technical: u8, flag: u8) {
+        let link = Link { security, kind: INVESTOR, csd, technical, flag, account: NO_ACCOUNT };
+        let _ = self.send(Command::EnterLink(link));
+    }
+
+    pub fn bring_in(&mut self, account: u16, security: u8, quantity: i64) -> Result<Done, Refusal> {
+        self.send(Command::BringIn { account, security, quantity: Units(quantity) })
+    }
+
+    pub fn take_out(&mut self, account: u16, security: u8, quantity: i64) -> Result<Done, Refusal> {
+        self.send(Command::TakeOut { account, security, quantity: Units(quantity) })
+    }
+
+    pub fn pay_in(&mut self, account: u16, amount: i64) -> Result<Done, Refusal> {
+        self.send(Command::PayIn { account, amount: Cents(amount) })
+    }
+
+    pub fn pay_out(&mut self, account: u16, amount: i64) -> Result<Done, Refusal> {
+        self.send(Command::PayOut { account, amount: Cents(amount) })
+    }
+
+    pub fn settle(&mut self, from: u16, to: u16, security: u8, quantity: i64, amount: i64) -> Result<Done, Refusal> {
+        let (delivering, receiving) = halves(self.directory(), from, to, security, quantity, amount);
+        self.send(Command::Settle { delivering, receiving })
+    }
+
+    pub fn derive(&mut self, from: u16, to: u16, security: u8, quantity: i64, amount: i64) -> Result<Done, Refusal> {
+        let (delivering, receiving) = halves(self.directory(), from, to, security, quantity, amount);
+        self.send(Command::Derive { delivering, receiving })
+    }
+}
+
+/// Two halves that go together.
+pub fn halves(directory: &Directory, from: u16, to: u16, security: u8, quantity: i64, amount: i64) -> (Half, Half) {
+    let csd = |account: u16| directory.accounts.get(usize::from(account)).map_or(NO_CSD, |row| row.csd);
+    let half = |account, counterpart| Half {
+        account,
+        counterpart: csd(counterpart),
+        security,
+        quantity: Units(quantity),
+        amount: Cents(amount),
+    };
+    (half(from, to), half(to, from))
+}
+
+/// A BIC for a CSD number.
+pub fn bic(number: usize) -> Bic {
+    let mut bic = *b"AAAAXX00XXX";
+    bic[6] += (number / 10 % 10) as u8;
+    bic[7] += (number % 10) as u8;
+    bic
+}
+
+/// A valid ISIN for a security number.
+pub fn isin_of(number: usize) -> Isin {
+    let mut isin = *b"XS0000000000";
+    isin[9] += (number / 10 % 10) as u8;
+    isin[10] += (number % 10) as u8;
+    with_check_digit(isin)
+}
+
+/// The ISIN with the check digit that fits its first eleven bytes.
+pub fn with_check_digit(mut isin: Isin) -> Isin {
+    for digit in b'0'..=b'9' {
+        isin[11] = digit;
+        if isin::sum_fits(&isin) {
+            break;
+        }
+    }
+    isin
+}

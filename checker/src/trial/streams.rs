@@ -1,0 +1,402 @@
+//! Random streams aimed at depth: long walks, cycles, two issuers, external ends, alternatives, full
+//! tables, numbers at the bound, and damaged bytes. A seed gives the same stream everywhere.
+
+use super::commands;
+use super::coverage::LENGTHS;
+use super::literal::{ChainKind, Rows};
+use super::random::Random;
+use super::scenario::Scenario;
+use crate::booking::BOUND;
+use crate::directory::*;
+use crate::transcript::INPUT_LIMIT;
+
+/// The stream of a seed, as bytes.
+pub fn stream(seed: u64) -> Vec<u8> {
+    let mut random = Random::new(seed);
+    let Scenario { mut bytes, session } = scenario(&mut random);
+    match random.below(20) {
+        0 | 1 => damage(&mut random, &mut bytes),
+        2 => {
+            let directory = session.register().directory();
+            commands::command(&mut random, directory).write(&mut bytes);
+            bytes.truncate(bytes.len() - random.between(1, 2));
+        }
+        _ => {}
+    }
+    bytes.truncate(INPUT_LIMIT);
+    bytes
+}
+
+/// An undamaged stream, with the store that it leaves.
+pub fn scenario(random: &mut Random) -> Scenario {
+    let shape = random.below(20);
+    let noise = random.pick(&[0, 0, 2, 10]);
+    let mut writer = Writer { random, scenario: Scenario::default(), noise };
+    match shape {
+        0..=3 => {
+            let plan = Plan::any(writer.random);
+            writer.two_sides(plan)
+        }
+        4..=8 => {
+            let plan = Plan::exact(writer.random);
+            writer.two_sides(plan)
+        }
+        9..=12 => {
+            let (csds, securities) = (writer.random.between(3, 16), writer.random.between(1, 5));
+            writer.web(csds, securities)
+        }
+        13 => writer.full_tables(),
+        14..=16 => writer.around_the_bound(),
+        _ => writer.commands_at_random(),
+    }
+    writer.scenario
+}
+
+/// Flips, drops, adds or repeats bytes, or cuts the stream.
+fn damage(random: &mut Random, bytes: &mut Vec<u8>) {
+    for _ in 0..random.between(1, 3) {
+        if bytes.is_empty() {
+            return;
+        }
+        let place = random.below(bytes.len());
+        match random.below(5) {
+            0 => bytes[place] = random.byte(),
+            1 => drop(bytes.remove(place)),
+            2 => bytes.insert(place, random.byte()),
+            3 => bytes.truncate(place),
+            _ => bytes.extend_from_within(place..(place + 60).min(bytes.len())),
+        }
+    }
+}
+
+/// How a side of a chain is made to end.
+#[derive(Clone, Copy, PartialEq)]
+enum SideEnd {
+    Issuer,
+    External,
+    Nothing,
+    Cycle,
+    /// A default link into the other side, at this place.
+    Joined(usize),
+}
+
+/// The CSDs of two sides by number, how each ends, and alternatives by place on the two sides in a row.
+struct Plan {
+    delivering: usize,
+    receiving: usize,
+    ends: [SideEnd; 2],
+    alternatives: Vec<(usize, usize)>,
+}
+
+impl Plan {
+    /// Sides of any length, often as many as a side may name or one more, with any end.
+    fn any(random: &mut Random) -> Plan {
+        use SideEnd::*;
+        let lengths = [1, 1, 2, 2, 3, 4, 5, 6, 7, 7, 8, 8, 8, 9];
+        let (delivering, receiving) = (random.pick(&lengths), random.pick(&lengths));
+        let joined = Joined(random.below(delivering));
+        let ends = [
+            random.pick(&[Issuer, Issuer, Issuer, External, External, Nothing, Cycle]),
+            random.pick(&[Issuer, Issuer, External, External, Nothing, Cycle, joined, joined]),
+        ];
+        let all = delivering + receiving;
+        let count = random.pick(&[0, 0, 1, 1, 2, 4]);
+        let alternative = |_| {
+            let (from, anywhere) = (random.below(all), random.below(all));
+            (from, random.pick(&[0, 0, delivering, delivering, anywhere]))
+        };
+        Plan { delivering, receiving, ends, alternatives: (0..count).map(alternative).collect() }
+    }
+
+    /// Sides that give a chain of a kind and length, each as likely as another.
+    fn exact(random: &mut Random) -> Plan {
+        let (kind, lengths) = LENGTHS[random.between(1, LENGTHS.len() - 1)].clone();
+        let length = random.between(*lengths.start(), *lengths.end());
+        match kind {
+            ChainKind::SharedInside | ChainKind::SharedOutside => {
+                let outside = kind == ChainKind::SharedOutside;
+                let most = if outside { 6 } else { 7 };
+                let up = random.between((length - 1).saturating_sub(most), most.min(length - 1));
+                let receiving = length - 1 - up;
+                let beyond = random.below(most - up.max(receiving) + 1);
+                let end = if outside { SideEnd::External } else { SideEnd::Issuer };
+                Plan::sides(up + 1 + beyond, receiving, [end, SideEnd::Joined(up)])
+            }
+            ChainKind::TwoIssuers | ChainKind::BothOutside => {
+                let outside = kind == ChainKind::BothOutside;
+                let most = if outside { 7 } else { 8 };
+                let up = random.between(1.max(length.saturating_sub(most)), most.min(length - 1));
+                let end = if outside { SideEnd::External } else { SideEnd::Issuer };
+                Plan::sides(up, length - up, [end, end])
+            }
+            _ => {
+                let named = length - 1;
+                let (walking, standing) = (random.between(named + 1, 9), random.between(1, 9));
+                let mut end = || random.pick(&[SideEnd::Issuer, SideEnd::External, SideEnd::External, SideEnd::Cycle]);
+                let ends = [end(), end()];
+                if kind == ChainKind::DirectedFromDelivering {
+                    let alternatives = vec![(named - 1, walking)];
+                    Plan { alternatives, ..Plan::sides(walking, standing, ends) }
+                } else {
+                    let alternatives = vec![(standing + named - 1, 0)];
+                    Plan { alternatives, ..Plan::sides(standing, walking, ends) }
+                }
+            }
+        }
+    }
+
+    fn sides(delivering: usize, receiving: usize, ends: [SideEnd; 2]) -> Plan {
+        Plan { delivering, receiving, ends, alternatives: Vec::new() }
+    }
+}
+
+struct Writer<'a> {
+    random: &'a mut Random,
+    scenario: Scenario,
+    noise: usize,
+}
+
+impl Writer<'_> {
+    /// Two walks, each to an end of its own or into the other, some alternatives, and trade between the
+    /// two ends.
+    fn two_sides(&mut self, plan: Plan) {
+        for _ in 0..self.random.below(3) {
+            self.scenario.csd(IN_T2S);
+        }
+        for _ in 0..self.random.below(2) {
+            self.scenario.security();
+        }
+        let security = self.scenario.security();
+        let all: Vec<u8> = (0..plan.delivering + plan.receiving).map(|_| self.scenario.csd(IN_T2S)).collect();
+        let (delivering, receiving) = all.split_at(plan.delivering);
+        let mut hops = [hops_of(delivering), hops_of(receiving)].concat();
+        let mut issuers = Vec::new();
+        let mut external = None;
+        let mut counterpart = receiving.first().copied();
+        for (side, end) in [(delivering, plan.ends[0]), (receiving, plan.ends[1])] {
+            match (side.last(), end) {
+                (Some(&last), SideEnd::Issuer) => issuers.push(last),
+                (Some(&last), SideEnd::External) => {
+                    let same = external.filter(|_| self.random.percent(40));
+                    external = Some(same.unwrap_or_else(|| self.external(security, &all)));
+                    hops.extend(external.map(|external| (last, external)));
+                }
+                (Some(&last), SideEnd::Cycle) => hops.push((last, self.random.pick(side))),
+                (Some(&last), SideEnd::Joined(place)) => hops.push((last, delivering[place])),
+                (None, SideEnd::Joined(place)) => counterpart = Some(delivering[place]),
+                _ => {}
+            }
+        }
+        self.random.shuffle(&mut hops);
+        let alternatives: Vec<(u8, u8)> = plan.alternatives.iter().map(|&(from, to)| (all[from], all[to])).collect();
+        self.enter(security, &issuers, &hops, &alternatives);
+        let ends = [delivering[0], counterpart.unwrap_or(delivering[0])];
+        self.trade(&[security], &all, ends);
+    }
+
+    /// A new external CSD, sometimes an issuer, sometimes with a link that no walk may follow.
+    fn external(&mut self, security: u8, csds: &[u8]) -> u8 {
+        let external = self.scenario.csd(EXTERNAL);
+        let technical = self.random.pick(csds);
+        match self.random.below(4) {
+            0 => self.scenario.issuer(security, external),
+            1 => self.scenario.link(security, external, technical, DEFAULT),
+            _ => {}
+        }
+        external
+    }
+
+    /// Enters links, then their pairs; in some streams a few pairs are left out.
+    fn enter(&mut self, security: u8, issuers: &[u8], defaults: &[(u8, u8)], alternatives: &[(u8, u8)]) {
+        for &issuer in issuers {
+            self.disturb();
+            self.scenario.issuer(security, issuer);
+        }
+        for (flag, hops) in [(DEFAULT, defaults), (ALTERNATIVE, alternatives)] {
+            for &(investor, technical) in hops {
+                self.disturb();
+                self.scenario.link(security, investor, technical, flag);
+            }
+        }
+        let left_out = self.random.pick(&[0, 0, 0, 10]);
+        let mut pairs = [defaults, alternatives].concat();
+        self.random.shuffle(&mut pairs);
+        for (investor, technical) in pairs {
+            self.disturb();
+            if !self.random.percent(left_out) {
+                self.scenario.pair(investor, technical);
+            }
+        }
+    }
+
+    /// Brings securities and cash in where that is possible, spreads them to the two ends, and settles and
+    /// derives between these and others.
+    fn trade(&mut self, securities: &[u8], csds: &[u8], ends: [u8; 2]) {
+        let accounts: Vec<u16> = csds.iter().map(|&csd| self.scenario.participant(csd)).collect();
+        let ends = ends.map(|csd| self.scenario.participant(csd));
+        for account in ends {
+            let amount = self.random.some_number();
+            let _ = self.scenario.pay_in(account, amount);
+        }
+        let rows = Rows::from(self.scenario.directory());
+        for &security in securities {
+            for &account in &accounts {
+                if rows.source(security, account).is_some() || self.random.percent(3) {
+                    self.bring_in_for(account, security, &ends);
+                }
+            }
+            for (from, to) in [(ends[0], ends[1]), (ends[1], ends[0])] {
+                let (quantity, amount) = (self.random.between(1, 9) as i64, self.random.below(2) as i64);
+                let _ = self.scenario.settle(from, to, security, quantity, amount);
+                let _ = self.scenario.derive(from, to, security, quantity, amount);
+            }
+        }
+        let second = self.scenario.account(csds[0], PARTICIPANT);
+        let everyone = [&accounts[..], &ends, &ends, &ends, &[second]].concat();
+        for _ in 0..self.random.between(2, 20) {
+            self.disturb();
+            self.instruct(securities, &everyone);
+        }
+    }
+
+    fn bring_in_for(&mut self, account: u16, security: u8, ends: &[u16]) {
+        let quantity = self.random.pick(&[BOUND, BOUND / 2, 1_000_000, 70]);
+        if self.scenario.bring_in(account, security, quantity).is_ok() {
+            for &end in ends {
+                self.disturb();
+                let _ = self.scenario.settle(account, end, security, quantity / 7, 0);
+            }
+        }
+    }
+
+    fn instruct(&mut self, securities: &[u8], accounts: &[u16]) {
+        let (from, to) = (self.random.pick(accounts), self.random.pick(accounts));
+        let security = self.random.pick(securities);
+        let quantity = self.random.some_number();
+        let amount = if self.random.percent(60) { 0 } else { self.random.some_number() };
+        let scenario = &mut self.scenario;
+        let _ = match self.random.below(8) {
+            0..=3 => scenario.settle(from, to, security, quantity, amount),
+            4 => scenario.take_out(from, security, quantity),
+            5 => scenario.pay_out(from, amount),
+            _ => scenario.derive(from, to, security, quantity, amount),
+        };
+    }
+
+    /// Many CSDs that hold with one or two technical issuers each, in several securities.
+    fn web(&mut self, csds: usize, securities: usize) {
+        let external = self.random.below(csds / 3 + 1);
+        let outside: Vec<u8> = (0..external).map(|_| self.scenario.csd(EXTERNAL)).collect();
+        let inside: Vec<u8> = (external..csds).map(|_| self.scenario.csd(IN_T2S)).collect();
+        let securities: Vec<u8> = (0..securities).map(|_| self.scenario.security()).collect();
+        let everywhere = [inside.clone(), inside.clone(), outside].concat();
+        let holds_with: Vec<[u8; 2]> =
+            inside.iter().map(|_| [self.random.pick(&everywhere), self.random.pick(&inside)]).collect();
+        for &security in &securities {
+            let (mut issuers, mut defaults, mut alternatives) = (Vec::new(), Vec::new(), Vec::new());
+            for (&csd, &[one, other]) in inside.iter().zip(&holds_with) {
+                match self.random.below(10) {
+                    0 | 1 => issuers.push(csd),
+                    2 => {}
+                    3..=5 => defaults.push((csd, other)),
+                    _ => {
+                        defaults.push((csd, one));
+                        alternatives.push((csd, other));
+                    }
+                }
+            }
+            self.enter(security, &issuers, &defaults, &alternatives);
+        }
+        let ends = [self.random.pick(&inside), self.random.pick(&inside)];
+        self.trade(&securities, &inside, ends);
+    }
+
+    /// Every table filled, and one more row tried in each.
+    fn full_tables(&mut self) {
+        self.web(29, 5);
+        for _ in self.scenario.directory().csds.count..=CSDS {
+            self.scenario.csd(IN_T2S);
+        }
+        for _ in self.scenario.directory().securities.count..=SECURITIES {
+            self.scenario.security();
+        }
+        for investor in 0..8 {
+            for technical in 0..9 {
+                self.scenario.pair(24 + investor, technical + 15);
+            }
+        }
+        for security in 5..16 {
+            for csd in 0..12 {
+                self.scenario.link(security, 31 - csd, 30 - csd, DEFAULT);
+            }
+        }
+        for _ in self.scenario.directory().accounts.count..=ACCOUNTS {
+            let csd = self.random.below(CSDS) as u8;
+            self.scenario.account(csd, self.random.below(5) as u8);
+        }
+        for _ in 0..60 {
+            self.disturb();
+            let command = commands::command(self.random, self.scenario.directory());
+            let _ = self.scenario.send(command);
+        }
+    }
+
+    /// One CSD that holds outside and with several others, and quantities that add up beyond the bound,
+    /// also on its inter-CSD account.
+    fn around_the_bound(&mut self) {
+        let security = self.scenario.security();
+        let hub = self.scenario.csd(IN_T2S);
+        let others: Vec<u8> = (0..self.random.between(2, 4)).map(|_| self.scenario.csd(IN_T2S)).collect();
+        let outside: Vec<u8> = (0..2).map(|_| self.scenario.csd(EXTERNAL)).collect();
+        let (issuers, holders) = others.split_at(self.random.below(others.len() + 1));
+        let mut defaults = vec![(hub, outside[0])];
+        defaults.extend(holders.iter().map(|&csd| (csd, self.random.pick(&outside))));
+        let alternatives: Vec<(u8, u8)> = others.iter().map(|&csd| (hub, csd)).collect();
+        self.enter(security, issuers, &defaults, &alternatives);
+        let own = self.scenario.participant(hub);
+        for &csd in &others {
+            let account = self.scenario.participant(csd);
+            let near = self.random.pick(&[BOUND, BOUND, BOUND - 1, BOUND / 2 + 1]);
+            let _ = self.scenario.bring_in(account, security, near);
+            let _ = self.scenario.pay_in(account, near);
+            self.disturb();
+            let amount = self.random.pick(&[0, 1, BOUND / 2 + 1]);
+            let _ = self.scenario.settle(account, own, security, near, amount);
+            let _ = self.scenario.pay_in(own, near);
+            if self.random.percent(70) {
+                let _ = self.scenario.take_out(own, security, near);
+            }
+        }
+        for _ in 0..self.random.between(4, 16) {
+            let accounts: Vec<u16> = others.iter().map(|&csd| self.scenario.participant(csd)).chain([own]).collect();
+            self.instruct(&[security], &accounts);
+            self.disturb();
+        }
+    }
+
+    /// Commands drawn one by one, on a small directory or none.
+    fn commands_at_random(&mut self) {
+        if self.random.percent(70) {
+            self.noise = 0;
+            let csds = self.random.between(3, 6);
+            self.web(csds, 2);
+        }
+        for _ in 0..self.random.between(1, 120) {
+            let command = commands::command(self.random, self.scenario.directory());
+            let _ = self.scenario.send(command);
+        }
+    }
+
+    /// Sometimes a command at random between the others.
+    fn disturb(&mut self) {
+        if self.random.percent(self.noise) {
+            let command = commands::command(self.random, self.scenario.directory());
+            let _ = self.scenario.send(command);
+        }
+    }
+}
+
+/// The default links along a side.
+fn hops_of(side: &[u8]) -> Vec<(u8, u8)> {
+    side.windows(2).map(|hop| (hop[0], hop[1])).collect()
+}

@@ -1,0 +1,127 @@
+//! Inputs that are worth keeping: every refusal of every command, chains of every kind and length, the
+//! ends of the input's length, damaged streams, and large sums. The model's transcripts are their outputs.
+
+use super::busy;
+use super::refused;
+use super::scenario::Scenario;
+use crate::booking::BOUND;
+use crate::directory::*;
+
+/// All vectors, by name.
+pub fn vectors() -> Vec<(&'static str, Vec<u8>)> {
+    let mut too_long = busy::mixed();
+    too_long.push(0);
+    vec![
+        ("refused-entries", refused::entries()),
+        ("refused-instructions", refused::instructions()),
+        ("refused-settlements", refused::settlements()),
+        ("chains-shared-inside", chains([8, 7], [Top::Issuer, Top::Joined], None)),
+        ("chains-shared-outside", chains([7, 6], [Top::External, Top::Joined], None)),
+        ("chains-two-issuers", chains([8, 8], [Top::Issuer, Top::Issuer], None)),
+        ("chains-both-outside", chains([7, 7], [Top::External, Top::External], None)),
+        ("chains-directed", chains([7, 1], [Top::External, Top::External], Some((6, 0)))),
+        ("large-sums", large_sums()),
+        ("unknown-byte", cut_or_unknown(&[0x00])),
+        ("cut-command-byte-alone", cut_or_unknown(&[0x01])),
+        ("cut-settle-by-one", cut_or_unknown(&[0x0A; 40])),
+        ("bytes-65536", busy::mixed()),
+        ("bytes-65537", too_long),
+    ]
+}
+
+/// How a side of the market ends.
+#[derive(Clone, Copy, PartialEq)]
+enum Top {
+    Issuer,
+    External,
+    Joined,
+}
+
+/// Two sides of given lengths, and between their participants chains of every length that they allow, each
+/// derived and settled both ways, the first way for cash. An alternative leads from a place on the first side
+/// to one on the second.
+fn chains(lengths: [usize; 2], tops: [Top; 2], alternative: Option<(usize, usize)>) -> Vec<u8> {
+    let mut scenario = Scenario::default();
+    let security = scenario.security();
+    let sides = lengths.map(|length| (0..length).map(|_| scenario.csd(IN_T2S)).collect::<Vec<u8>>());
+    enter_sides(&mut scenario, security, &sides, tops);
+    if let Some((from, to)) = alternative {
+        scenario.link(security, sides[0][from], sides[1][to], ALTERNATIVE);
+        scenario.pair(sides[0][from], sides[1][to]);
+    }
+    let accounts = sides.map(|side| side.iter().map(|&csd| scenario.participant(csd)).collect::<Vec<u16>>());
+    for (side, top) in accounts.iter().zip(tops) {
+        let source = if top == Top::Joined { accounts[0][lengths[0] - 1] } else { side[side.len() - 1] };
+        scenario.bring_in(source, security, 1_000_000).ok();
+        for &account in side.iter().filter(|&&account| account != source) {
+            scenario.settle(source, account, security, 50_000, 0).ok();
+        }
+    }
+    let neighbour = scenario.account(0, PARTICIPANT);
+    let mut trades = vec![(accounts[0][0], neighbour)];
+    for steps in 2..=lengths[0] + lengths[1] {
+        let near = (steps - 1).min(lengths[0]);
+        if steps - near <= lengths[1] {
+            trades.push((accounts[1][lengths[1] - (steps - near)], accounts[0][lengths[0] - near]));
+        }
+    }
+    trade(&mut scenario, security, &trades);
+    scenario.bytes
+}
+
+/// Links and pairs along two sides and to their ends.
+fn enter_sides(scenario: &mut Scenario, security: u8, sides: &[Vec<u8>; 2], tops: [Top; 2]) {
+    for (side, top) in sides.iter().zip(tops) {
+        let mut path = side.clone();
+        match top {
+            Top::Issuer => scenario.issuer(security, side[side.len() - 1]),
+            Top::External => path.push(scenario.csd(EXTERNAL)),
+            Top::Joined => path.push(sides[0][sides[0].len() - 1]),
+        }
+        for hop in path.windows(2) {
+            scenario.link(security, hop[0], hop[1], DEFAULT);
+            scenario.pair(hop[0], hop[1]);
+        }
+    }
+}
+
+fn trade(scenario: &mut Scenario, security: u8, trades: &[(u16, u16)]) {
+    for (amount, &(from, to)) in (1..).zip(trades) {
+        scenario.pay_in(to, 100).ok();
+        for (from, to, amount) in [(from, to, amount), (to, from, 0)] {
+            scenario.derive(from, to, security, 1, amount).ok();
+            scenario.settle(from, to, security, 1, amount).ok();
+        }
+    }
+}
+
+/// Totals far beyond 10^15, by many accounts at 10^15 each.
+fn large_sums() -> Vec<u8> {
+    let mut scenario = Scenario::default();
+    let securities = [scenario.security(), scenario.security()];
+    for _ in 0..CSDS {
+        let csd = scenario.csd(IN_T2S);
+        let account = scenario.participant(csd);
+        for security in securities {
+            scenario.issuer(security, csd);
+            scenario.bring_in(account, security, BOUND).ok();
+        }
+        for _ in 0..6 {
+            let account = scenario.account(csd, PARTICIPANT);
+            scenario.pay_in(account, BOUND).ok();
+        }
+    }
+    scenario.take_out(0, 0, BOUND - 1).ok();
+    scenario.pay_out(2, BOUND - 7).ok();
+    scenario.bytes
+}
+
+/// A security and some cash, then bytes that stop the reading.
+fn cut_or_unknown(rest: &[u8]) -> Vec<u8> {
+    let mut scenario = Scenario::default();
+    scenario.security();
+    let csd = scenario.csd(IN_T2S);
+    let account = scenario.participant(csd);
+    scenario.pay_in(account, 5).ok();
+    [scenario.bytes, rest.to_vec()].concat()
+}

@@ -1,0 +1,423 @@
+//! Chains that the documents show, by name: all of "Chains by example" of document 01, the walks that it
+//! words, and the examples 122 to 126 and 130 of document 000 with their accounts.
+//!
+//! Links are written as in document 01: "A>C>I" are default links from A to C and from C to I, "C~B" is an
+//! alternative; I and J are issuers, X and Y external. Every hop has its pair, every CSD in T2S a participant.
+
+use std::collections::BTreeMap;
+
+use checker::booking::{Cents, Units};
+use checker::chain::Step;
+use checker::command::Command;
+use checker::desk;
+use checker::directory::*;
+use checker::trial::scenario::{halves, Scenario};
+
+const SECURITY: u8 = 0;
+
+struct Example {
+    scenario: Scenario,
+    csds: BTreeMap<char, u8>,
+    accounts: BTreeMap<u16, String>,
+}
+
+impl Example {
+    fn new(links: &str) -> Example {
+        let mut example = Example { scenario: Scenario::default(), csds: BTreeMap::new(), accounts: BTreeMap::new() };
+        example.scenario.security();
+        for name in ['A', 'B'].into_iter().chain(links.chars().filter(char::is_ascii_uppercase)) {
+            example.enter_csd(name);
+        }
+        let (alternatives, defaults): (Vec<&str>, Vec<&str>) = links.split(", ").partition(|text| text.contains('~'));
+        for (flag, texts) in [(DEFAULT, defaults), (ALTERNATIVE, alternatives)] {
+            for text in texts {
+                let names: Vec<char> = text.chars().filter(char::is_ascii_uppercase).collect();
+                names.windows(2).for_each(|hop| example.enter_link(hop[0], hop[1], flag));
+            }
+        }
+        example
+    }
+
+    fn enter_csd(&mut self, name: char) {
+        if self.csds.contains_key(&name) {
+            return;
+        }
+        let external = matches!(name, 'X' | 'Y');
+        let csd = self.scenario.csd(if external { EXTERNAL } else { IN_T2S });
+        self.csds.insert(name, csd);
+        if !external {
+            let account = self.scenario.participant(csd);
+            self.accounts.insert(account, format!("Part {name}"));
+        }
+        if matches!(name, 'I' | 'J') {
+            let account = self.scenario.own_account(csd, ISSUANCE);
+            self.accounts.insert(account, format!("Issuance {name}"));
+            self.scenario.issuer(SECURITY, csd);
+        }
+    }
+
+    fn enter_link(&mut self, investor: char, technical: char, flag: u8) {
+        let (csd, issuer) = (self.csds[&investor], self.csds[&technical]);
+        self.scenario.link(SECURITY, csd, issuer, flag);
+        self.scenario.pair(csd, issuer);
+        let pairs = self.scenario.directory().pairs.entered().unwrap();
+        if let Some(pair) = pairs.iter().find(|pair| pair.investor == csd && pair.technical == issuer) {
+            let kind = if pair.technical_account == NO_ACCOUNT { "Inter CSD" } else { "Mirror" };
+            self.accounts.insert(pair.investor_account, format!("{kind} {investor}-{technical}"));
+            self.accounts.insert(pair.technical_account, format!("Omnibus {investor}"));
+        }
+    }
+
+    /// The steps from A to B, derived as a single call, or the refusal.
+    fn steps(&self, from: char, to: char) -> Result<Vec<Step>, u8> {
+        let account = |name| self.accounts.iter().find(|(_, text)| **text == format!("Part {name}")).map(|(&n, _)| n);
+        let (from, to) = (account(from).unwrap(), account(to).unwrap());
+        let (delivering, receiving) = halves(self.scenario.directory(), from, to, SECURITY, 100, 0);
+        let mut steps = [Step::default(); 16];
+        let derived = desk::derive(self.scenario.directory(), &mut steps, &delivering, &receiving);
+        self.agrees_with_settlement(
+            from,
+            to,
+            derived.map(|length| &steps[..length]).map_err(|refusal| refusal.number()),
+        );
+        self.agrees_with_stream(from, to, derived.map_err(|refusal| refusal.number()));
+        derived.map(|length| steps[..length].to_vec()).map_err(|refusal| refusal.number())
+    }
+
+    /// Settling books the steps that derive gives, and nothing else, over holdings of 100 everywhere.
+    fn agrees_with_settlement(&self, from: u16, to: u16, derived: Result<&[Step], u8>) {
+        let (delivering, receiving) = halves(self.scenario.directory(), from, to, SECURITY, 100, 0);
+        let (mut positions, mut cash) = (vec![Units(100); 4096], vec![Cents(5); 256]);
+        let mut steps = [Step::default(); 16];
+        let directory = self.scenario.directory();
+        let booked = desk::settle(directory, &mut positions, &mut cash, &mut steps, &delivering, &receiving);
+        assert_eq!(booked.map(|length| &steps[..length]).map_err(|refusal| refusal.number()), derived);
+        let mut expected = vec![Units(100); 4096];
+        for step in derived.unwrap_or_default() {
+            expected[usize::from(step.debit) * 16].0 -= 100;
+            expected[usize::from(step.credit) * 16].0 += 100;
+        }
+        assert!(positions == expected && cash == vec![Cents(5); 256]);
+    }
+
+    fn agrees_with_stream(&self, from: u16, to: u16, derived: Result<usize, u8>) {
+        let mut bytes = self.scenario.bytes.clone();
+        let (delivering, receiving) = halves(self.scenario.directory(), from, to, SECURITY, 100, 0);
+        Command::Derive { delivering, receiving }.write(&mut bytes);
+        let text = String::from_utf8(checker::transcript(&bytes)).unwrap();
+        let answer = match derived {
+            Ok(length) => format!(" chain {length}\n"),
+            Err(number) => format!(" no {number}\n"),
+        };
+        assert!(text.contains(&answer), "{text}");
+    }
+
+    fn name(&self, csd: u8) -> char {
+        self.csds.iter().find(|(_, &number)| number == csd).map(|(&name, _)| name).unwrap()
+    }
+
+    /// The CSDs of the chain from one to another.
+    fn chain(&self, from: char, to: char) -> Result<String, u8> {
+        let names: Vec<String> = self.steps(from, to)?.iter().map(|step| self.name(step.csd).to_string()).collect();
+        Ok(names.join(" "))
+    }
+
+    /// The steps of the chain as lines: CSD, account debited, account credited.
+    fn accounts(&self, from: char, to: char) -> Vec<String> {
+        let line = |step: &Step| {
+            let account = |number| &self.accounts[&number];
+            format!("{}: {} > {}", self.name(step.csd), account(step.debit), account(step.credit))
+        };
+        self.steps(from, to).unwrap().iter().map(line).collect()
+    }
+}
+
+/// The chain from A to B.
+fn chain(links: &str) -> Result<String, u8> {
+    Example::new(links).chain('A', 'B')
+}
+
+/// The steps from A to B, and that they mean so many generated instructions.
+fn accounts(links: &str, instructions: usize) -> Vec<String> {
+    let steps = Example::new(links).accounts('A', 'B');
+    assert_eq!(2 * steps.len() - 2, instructions);
+    steps
+}
+
+fn is(text: &str) -> Result<String, u8> {
+    Ok(text.into())
+}
+
+mod chains_by_example {
+    use super::*;
+
+    #[test]
+    fn one_csd_is_one_step() {
+        let mut example = Example::new("A>I");
+        let csd = example.csds[&'A'];
+        let second = example.scenario.account(csd, PARTICIPANT);
+        example.accounts.insert(second, "Part Z".into());
+        assert_eq!(example.accounts('A', 'Z'), ["A: Part A > Part Z"]);
+    }
+
+    #[test]
+    fn two_sides_of_two_to_one_issuer() {
+        assert_eq!(chain("A>C>I, B>D>I"), is("A C I D B"));
+        accounts("A>C>I, B>D>I", 8);
+    }
+
+    #[test]
+    fn two_investors_of_one_issuer() {
+        assert_eq!(chain("A>I, B>I"), is("A I B"));
+    }
+
+    #[test]
+    fn the_receiving_csd_is_on_the_delivering_walk() {
+        assert_eq!(chain("A>B>I"), is("A B"));
+    }
+
+    #[test]
+    fn shared_before_an_external_end() {
+        assert_eq!(chain("A>C, B>C, C>X"), is("A C B"));
+    }
+
+    #[test]
+    fn two_issuers() {
+        assert_eq!(chain("A>I, B>J"), is("A I J B"));
+        accounts("A>I, B>J", 6);
+    }
+
+    #[test]
+    fn two_issuers_with_an_alternative() {
+        assert_eq!(chain("A>I, B>J, A~B"), is("A B"));
+    }
+
+    #[test]
+    fn alternative_on_the_way_to_an_external_issuer() {
+        assert_eq!(chain("A>C>X, B>D>X, C~B"), is("A C B"));
+    }
+
+    #[test]
+    fn both_outside() {
+        assert_eq!(chain("A>X, B>Y"), is("A B"));
+    }
+
+    #[test]
+    fn inside_with_outside_is_refused() {
+        assert_eq!(chain("A>I, B>X"), Err(16));
+    }
+
+    #[test]
+    fn outside_with_inside_is_refused() {
+        assert_eq!(chain("A>X, B>I"), Err(17));
+    }
+
+    #[test]
+    fn an_alternative_is_not_taken_where_defaults_meet() {
+        assert_eq!(chain("A>C>I, B>D>I, A~B"), is("A C I D B"));
+    }
+
+    #[test]
+    fn an_unlinked_side_is_refused() {
+        assert_eq!(chain("B>I"), Err(14));
+    }
+}
+
+mod mistakes_to_expect {
+    use super::*;
+
+    #[test]
+    fn the_chain_turns_at_the_shared_csd() {
+        assert_eq!(chain("A>C>I, B>C"), is("A C B"));
+    }
+
+    #[test]
+    fn alternatives_come_before_16_and_17() {
+        assert_eq!(chain("A>I, B>X, B~A"), is("A B"));
+        assert_eq!(chain("A>X, B>I, A~B"), is("A B"));
+    }
+
+    #[test]
+    fn the_same_external_csd_is_not_shared() {
+        assert_eq!(chain("A>X, B>X"), is("A B"));
+    }
+
+    #[test]
+    fn provision_is_tested_on_the_omnibus_too() {
+        let example = Example::new("A>C>I, B>D>I");
+        let directory = example.scenario.directory();
+        let account =
+            |name: &str| example.accounts.iter().find(|(_, text)| *text == name).map(|(&number, _)| number).unwrap();
+        let (delivering, receiving) = halves(directory, account("Part A"), account("Part B"), SECURITY, 100, 0);
+        let mut positions = vec![Units(100); 4096];
+        positions[usize::from(account("Omnibus C")) * 16].0 = 99;
+        let (before, mut steps) = (positions.clone(), [Step::default(); 16]);
+        let answer = desk::settle(directory, &mut positions, &mut [Cents(0); 256], &mut steps, &delivering, &receiving);
+        assert_eq!(answer.map_err(|refusal| refusal.number()), Err(20));
+        assert!(positions == before && steps == [Step::default(); 16]);
+    }
+
+    #[test]
+    fn a_pair_that_is_missing_is_18() {
+        let mut example = Example::new("A>I");
+        let (csd, issuer) = (example.csds[&'B'], example.csds[&'I']);
+        example.scenario.link(SECURITY, csd, issuer, DEFAULT);
+        assert_eq!(example.chain('A', 'B'), Err(18));
+    }
+}
+
+mod walks {
+    use super::*;
+
+    #[test]
+    fn eight_to_an_issuer_are_fine_and_nine_too_long() {
+        assert_eq!(chain("A>K>L>M>N>O>P>I, B>I"), is("A K L M N O P I B"));
+        assert_eq!(chain("A>K>L>M>N>O>P>Q>I, B>I"), Err(15));
+    }
+
+    #[test]
+    fn a_cycle_is_too_long() {
+        assert_eq!(chain("A>C>A, B>I"), Err(15));
+    }
+
+    #[test]
+    fn the_external_end_is_counted() {
+        assert_eq!(chain("A>K>L>M>N>O>P>X, B>Y"), is("A K L M N O P B"));
+        assert_eq!(chain("A>K>L>M>N>O>P>Q>X, B>Y"), Err(15));
+    }
+
+    #[test]
+    fn an_eighth_csd_without_a_link_is_14() {
+        assert_eq!(chain("A>K>L>M>N>O>P>Q, B>I"), Err(14));
+    }
+
+    #[test]
+    fn sixteen_steps() {
+        let chain = chain("A>C>D>E>F>G>H>I, B>K>L>M>N>O>P>J");
+        assert_eq!(chain, is("A C D E F G H I J P O N M L K B"));
+    }
+
+    #[test]
+    fn a_directed_walk_counts_its_target() {
+        assert_eq!(chain("A>K>L>M>N>O>P>X, P~B, B>I"), is("A K L M N O P B"));
+        assert_eq!(chain("A>K>L>M>N>O>P>Q>A, Q~B, B>I"), Err(15));
+    }
+
+    #[test]
+    fn a_directed_walk_ends_at_an_external_csd() {
+        assert_eq!(chain("A>X, X>B, B>I"), Err(17));
+    }
+
+    #[test]
+    fn a_directed_walk_may_reach_by_defaults_alone() {
+        assert_eq!(chain("A>B>C>B"), is("A B"));
+    }
+
+    #[test]
+    fn the_delivering_side_is_tried_first_and_steps_run_from_it() {
+        assert_eq!(chain("A>I, B>D>J, A~D, D~A"), is("A D B"));
+        assert_eq!(
+            Example::new("A>I, B>J, A~B, B~A").accounts('A', 'B'),
+            ["A: Part A > Mirror A-B", "B: Omnibus A > Part B"]
+        );
+        assert_eq!(
+            Example::new("A>I, B>J, B~A").accounts('A', 'B'),
+            ["A: Part A > Omnibus B", "B: Mirror B-A > Part B"]
+        );
+    }
+
+    #[test]
+    fn walks_that_share_and_end_nowhere_are_not_joined() {
+        assert_eq!(chain("A>C>D, B>C"), Err(14));
+    }
+}
+
+mod document_000 {
+    use super::*;
+
+    #[test]
+    fn example_122_default_links() {
+        let expected = [
+            "A: Part A > Mirror A-C",
+            "C: Omnibus A > Mirror C-I",
+            "I: Omnibus C > Omnibus D",
+            "D: Mirror D-I > Omnibus B",
+            "B: Mirror B-D > Part B",
+        ];
+        assert_eq!(accounts("A>C>I, B>D>I", 8), expected);
+    }
+
+    #[test]
+    fn example_122_alternative_link_in_presence_of_an_external_csd() {
+        let expected = ["A: Part A > Mirror A-C", "C: Omnibus A > Mirror C-B", "B: Omnibus C > Part B"];
+        assert_eq!(accounts("A>C>X, B>D>X, C~B", 4), expected);
+    }
+
+    #[test]
+    fn example_122_alternative_link_in_case_of_double_issuance() {
+        let expected = ["A: Part A > Omnibus D", "D: Mirror D-A > Omnibus B", "B: Mirror B-D > Part B"];
+        assert_eq!(accounts("A>C>I, B>D>J, D~A", 4), expected);
+    }
+
+    /// The full set that the two diagrams of example 123 show is the set of example 122.
+    #[test]
+    fn example_123_full_sets() {
+        assert_eq!(chain("A>C>I, B>D>I"), is("A C I D B"));
+        assert_eq!(chain("A>C>X, B>D>X, C~B"), is("A C B"));
+    }
+
+    #[test]
+    fn example_124_two_investors_one_issuer() {
+        let expected = ["A: Part A > Mirror A-I", "I: Omnibus A > Omnibus B", "B: Mirror B-I > Part B"];
+        assert_eq!(accounts("A>I, B>I", 4), expected);
+    }
+
+    #[test]
+    fn example_125_two_issuers_by_default_links() {
+        let expected = [
+            "A: Part A > Mirror A-I",
+            "I: Omnibus A > Issuance I",
+            "J: Issuance J > Omnibus B",
+            "B: Mirror B-J > Part B",
+        ];
+        assert_eq!(accounts("A>I, B>J", 6), expected);
+    }
+
+    #[test]
+    fn example_125_two_issuers_by_an_alternative_link() {
+        assert_eq!(accounts("A>I, B>J, A~B", 2), ["A: Part A > Mirror A-B", "B: Omnibus A > Part B"]);
+    }
+
+    /// With a single omnibus account of C; several are not in document 01.
+    #[test]
+    fn example_126_common_technical_issuer() {
+        let expected = ["A: Part A > Mirror A-C", "C: Omnibus A > Omnibus B", "B: Mirror B-C > Part B"];
+        assert_eq!(accounts("A>C, B>C, C>I", 4), expected);
+    }
+
+    #[test]
+    fn example_130_alternative_link() {
+        assert_eq!(accounts("A>X, B>X, A~B", 2), ["A: Part A > Mirror A-B", "B: Omnibus A > Part B"]);
+    }
+
+    #[test]
+    fn example_130_default_links() {
+        assert_eq!(accounts("A>X, B>X", 2), ["A: Part A > Inter CSD A-X", "B: Inter CSD B-X > Part B"]);
+    }
+}
+
+mod documents_001_and_003 {
+    use super::*;
+
+    #[test]
+    fn cr_0846_mixed_ends() {
+        assert_eq!(Example::new("A>I, B>X").chain('A', 'B'), Err(16));
+        assert_eq!(Example::new("A>I, B>X").chain('B', 'A'), Err(17));
+    }
+
+    #[test]
+    fn cr_0797_example_38_alternative_to_the_counterpart() {
+        assert_eq!(Example::new("A>C>I, B>J, C~J").chain('A', 'J'), is("A C J"));
+        assert_eq!(Example::new("A>C>I, B>J, C~J").chain('A', 'B'), is("A C I J B"));
+    }
+}

@@ -1,0 +1,240 @@
+//! Points that document 01 leaves open to a second reading, and the one taken (docs/DECISIONS.md).
+
+use checker::booking::{Cents, Half, Units, BOUND};
+use checker::chain::Step;
+use checker::command::Command;
+use checker::desk;
+use checker::directory::*;
+use checker::trial::implementation::{Answer, Call, Implementation, Model, Store};
+use checker::trial::scenario::{bic, halves, Scenario};
+
+const A: u8 = 0;
+const B: u8 = 1;
+const C: u8 = 2;
+const X: u8 = 3;
+const Y: u8 = 4;
+const FF: u8 = NO_CSD;
+const FFFF: u16 = NO_ACCOUNT;
+
+/// Accounts are numbered CSD × 5 + kind.
+fn account(csd: u8, kind: u8) -> u16 {
+    u16::from(csd) * 5 + u16::from(kind)
+}
+
+/// A, B, C in T2S, X, Y external, two securities, an account of each kind in A, B and C.
+fn fixture() -> Scenario {
+    let mut scenario = Scenario::default();
+    for kind in [IN_T2S, IN_T2S, IN_T2S, EXTERNAL, EXTERNAL] {
+        scenario.csd(kind);
+    }
+    scenario.security();
+    scenario.security();
+    for csd in [A, B, C] {
+        for kind in PARTICIPANT..=ISSUANCE {
+            scenario.account(csd, kind);
+        }
+    }
+    scenario
+}
+
+fn number(result: Result<checker::transcript::Done, checker::refusal::Refusal>) -> u8 {
+    result.err().map_or(0, |refusal| refusal.number())
+}
+
+/// The refusal of a pair row, 0 for none.
+fn pair(scenario: &mut Scenario, investor: u8, technical: u8, one: u16, other: u16) -> u8 {
+    let row = Pair { investor, technical, investor_account: one, technical_account: other };
+    number(scenario.send(Command::EnterPair(row)))
+}
+
+/// The refusal of a link row in security 0, 0 for none.
+fn link(scenario: &mut Scenario, kind: u8, csd: u8, technical: u8, flag: u8, account: u16) -> u8 {
+    number(scenario.send(Command::EnterLink(Link { security: 0, kind, csd, technical, flag, account })))
+}
+
+#[test]
+fn ff_where_a_row_is_due_in_any_case_is_6_beside_a_bad_kind() {
+    let mut s = fixture();
+    assert_eq!(number(s.send(Command::EnterAccount(Account { csd: FF, kind: 9 }))), 6);
+    assert_eq!(link(&mut s, 9, FF, FF, 1, FFFF), 6);
+    let row = Link { security: FF, kind: 9, csd: A, technical: FF, flag: 1, account: FFFF };
+    assert_eq!(number(s.send(Command::EnterLink(row))), 6);
+}
+
+#[test]
+fn technical_issuer_and_account_are_not_6_beside_a_bad_kind_unless_they_name_nothing_else() {
+    let mut s = fixture();
+    assert_eq!(link(&mut s, 2, A, FF, 1, FFFF), 7);
+    assert_eq!(link(&mut s, 2, A, 5, 1, FFFF), 6);
+    assert_eq!(link(&mut s, 2, A, FF, 1, 99), 6);
+    assert_eq!(link(&mut s, INVESTOR, A, FF, 9, FFFF), 6);
+    assert_eq!(link(&mut s, ISSUER, A, FF, 9, FFFF), 6);
+}
+
+#[test]
+fn issuer_links_beside_others() {
+    let mut s = fixture();
+    assert_eq!(link(&mut s, INVESTOR, A, B, 1, FFFF), 0);
+    assert_eq!(link(&mut s, ISSUER, A, B, 1, account(A, ISSUANCE)), 9);
+    assert_eq!(link(&mut s, ISSUER, A, C, 1, account(A, ISSUANCE)), 11);
+    assert_eq!(link(&mut s, ISSUER, A, FF, 1, account(A, ISSUANCE)), 11);
+    assert_eq!(link(&mut s, ISSUER, B, FF, 1, account(B, ISSUANCE)), 0);
+    assert_eq!(link(&mut s, ISSUER, B, FF, 1, account(B, ISSUANCE)), 11);
+    assert_eq!(link(&mut s, INVESTOR, B, C, 1, FFFF), 11);
+    assert_eq!(link(&mut s, ISSUER, X, FF, 1, account(A, ISSUANCE)), 11);
+    assert_eq!(link(&mut s, ISSUER, X, FF, 1, FFFF), 0);
+}
+
+#[test]
+fn external_csds_in_links() {
+    let mut s = fixture();
+    assert_eq!(link(&mut s, INVESTOR, X, A, 1, FFFF), 0);
+    assert_eq!(link(&mut s, INVESTOR, X, B, 0, FFFF), 11);
+    assert_eq!(link(&mut s, INVESTOR, A, B, 1, FFFF), 0);
+    assert_eq!(link(&mut s, INVESTOR, A, X, 0, FFFF), 11);
+    assert_eq!(link(&mut s, INVESTOR, A, C, 0, FFFF), 0);
+    assert_eq!(link(&mut s, INVESTOR, A, C, 1, FFFF), 9);
+}
+
+#[test]
+fn one_issuance_account_serves_several_links() {
+    let mut s = fixture();
+    assert_eq!(link(&mut s, ISSUER, A, FF, 1, account(A, ISSUANCE)), 0);
+    let row = Link { security: 1, kind: ISSUER, csd: A, technical: FF, flag: 1, account: account(A, ISSUANCE) };
+    assert_eq!(number(s.send(Command::EnterLink(row))), 0);
+}
+
+#[test]
+fn second_account_of_a_pair_with_an_external_technical_issuer() {
+    let mut s = fixture();
+    let inter_csd = account(A, INTER_CSD);
+    assert_eq!(pair(&mut s, B, A, account(B, MIRROR), account(A, OMNIBUS)), 0);
+    assert_eq!(pair(&mut s, A, X, inter_csd, account(A, OMNIBUS)), 9);
+    assert_eq!(pair(&mut s, A, X, account(A, MIRROR), account(B, OMNIBUS)), 10);
+    assert_eq!(pair(&mut s, A, X, inter_csd, account(B, OMNIBUS)), 11);
+    assert_eq!(pair(&mut s, A, X, inter_csd, 99), 6);
+    assert_eq!(pair(&mut s, A, X, inter_csd, FFFF), 0);
+    assert_eq!(pair(&mut s, B, X, account(B, INTER_CSD), FFFF), 0);
+}
+
+#[test]
+fn one_account_twice_in_a_new_pair_is_not_9() {
+    let mut s = fixture();
+    assert_eq!(pair(&mut s, A, B, account(A, MIRROR), account(A, MIRROR)), 10);
+    assert_eq!(pair(&mut s, A, X, account(A, INTER_CSD), account(A, INTER_CSD)), 11);
+}
+
+#[test]
+fn investors_and_technical_issuers_of_pairs() {
+    let mut s = fixture();
+    assert_eq!(pair(&mut s, X, A, account(A, MIRROR), account(A, OMNIBUS)), 10);
+    assert_eq!(pair(&mut s, A, A, account(A, MIRROR), account(A, OMNIBUS)), 11);
+    assert_eq!(pair(&mut s, A, B, account(A, MIRROR), FFFF), 6);
+    assert_eq!(pair(&mut s, A, B, account(A, MIRROR), account(B, OMNIBUS)), 0);
+    assert_eq!(pair(&mut s, B, A, account(B, MIRROR), account(A, OMNIBUS)), 0);
+    assert_eq!(pair(&mut s, A, B, account(C, MIRROR), account(C, OMNIBUS)), 9);
+}
+
+#[test]
+fn a_bic_is_the_same_by_its_first_eight_bytes_in_and_outside_t2s() {
+    let mut s = fixture();
+    let mut branch = bic(usize::from(Y));
+    branch[8..].copy_from_slice(b"ABC");
+    assert_eq!(number(s.send(Command::EnterCsd(Csd { kind: IN_T2S, bic: branch }))), 9);
+}
+
+#[test]
+fn a_letter_as_check_digit_is_7() {
+    let mut s = fixture();
+    assert_eq!(number(s.send(Command::EnterSecurity(Security { isin: *b"XS000000001A" }))), 7);
+}
+
+/// Halves between the participants of A and B in security 0.
+fn trade() -> (Scenario, Half, Half) {
+    let mut s = fixture();
+    s.issuer(0, B);
+    s.link(0, A, B, DEFAULT);
+    s.pair(A, B);
+    let (delivering, receiving) = halves(s.directory(), account(B, PARTICIPANT), account(A, PARTICIPANT), 0, 5, 0);
+    (s, delivering, receiving)
+}
+
+#[test]
+fn halves_are_judged_number_by_number() {
+    let (mut s, d, r) = trade();
+    let mut refusal = |delivering, receiving| number(s.send(Command::Derive { delivering, receiving }));
+    let wrong_kind = Half { account: account(B, MIRROR), ..d };
+    assert_eq!(refusal(Half { quantity: Units(0), ..d }, Half { counterpart: 9, ..r }), 6);
+    assert_eq!(refusal(wrong_kind, Half { amount: Cents(-1), ..r }), 7);
+    assert_eq!(refusal(wrong_kind, Half { amount: Cents(1), ..r }), 10);
+    assert_eq!(refusal(Half { counterpart: X, ..d }, r), 12);
+    assert_eq!(refusal(Half { counterpart: B, ..d }, Half { account: d.account, ..r }), 13);
+    assert_eq!(refusal(Half { quantity: Units(BOUND + 1), ..d }, Half { quantity: Units(BOUND + 1), ..r }), 7);
+    assert_eq!(refusal(d, r), 0);
+}
+
+/// Settles 5 from B to A over lent numbers, and gives the answer and the position of the delivering account.
+fn settle(position: i64, cash: i64, amount: i64) -> (Answer, i64) {
+    let (s, delivering, receiving) = trade();
+    let mut store = Store { directory: s.directory().clone(), steps: vec![Step::default(); 16], ..Store::empty() };
+    let place = usize::from(delivering.account) * SECURITIES;
+    store.positions[place] = Units(position);
+    store.cash[usize::from(receiving.account)] = Cents(cash);
+    let pay = |half| Half { amount: Cents(amount), ..half };
+    let command = Command::Settle { delivering: pay(delivering), receiving: pay(receiving) };
+    let answer = Model.call(&mut store, &Call::Command(command));
+    (answer, store.positions[place].0)
+}
+
+#[test]
+fn lent_numbers() {
+    assert_eq!(settle(-1, 0, 0), (Answer::Refused(20), -1));
+    assert_eq!(settle(i64::MIN, 0, 0), (Answer::Refused(20), i64::MIN));
+    assert_eq!(settle(4, 0, 1), (Answer::Refused(20), 4));
+    assert_eq!(settle(5, 0, 1), (Answer::Refused(21), 5));
+    assert_eq!(settle(i64::MAX, 0, 1), (Answer::Refused(21), i64::MAX));
+    assert_eq!(settle(i64::MAX, i64::MAX, 1), (Answer::Refused(22), i64::MAX));
+    assert_eq!(settle(BOUND + 6, 0, 0), (Answer::Refused(22), BOUND + 6));
+    assert_eq!(settle(BOUND + 5, 0, 0), (Answer::Booked(2), BOUND));
+    assert_eq!(settle(5, i64::MIN, 0), (Answer::Booked(2), 0));
+}
+
+#[test]
+fn totals() {
+    let (s, ..) = trade();
+    let directory = s.directory();
+    let mut positions = vec![Units(0); 4096];
+    positions[usize::from(account(A, MIRROR)) * 16] = Units(i64::MIN);
+    positions[usize::from(account(A, PARTICIPANT)) * 16 + 1] = Units(BOUND + 1);
+    for csd in [A, B, C] {
+        positions[usize::from(account(csd, PARTICIPANT)) * 16] = Units(BOUND);
+    }
+    let total = |positions: &[Units], security| desk::total(directory, positions, security).map_err(|r| r.number());
+    assert_eq!(total(&positions, 0), Ok(3 * BOUND));
+    assert_eq!(total(&positions, 1), Err(22));
+    assert_eq!(total(&positions, 2), Err(6));
+    assert_eq!(total(&positions[1..], 2), Err(3));
+    assert_eq!(desk::cash_total(&[Cents(BOUND); 256]).ok(), Some(256 * BOUND));
+    assert_eq!(desk::cash_total(&[Cents(-BOUND); 256]).ok(), Some(-256 * BOUND));
+    let mut cash = [Cents(0); 256];
+    cash[255] = Cents(-BOUND - 1);
+    assert_eq!(desk::cash_total(&cash).map_err(|r| r.number()), Err(22));
+    assert_eq!(desk::cash_total(&cash[1..]).map_err(|r| r.number()), Err(3));
+}
+
+#[test]
+fn lists_come_before_soundness_and_soundness_before_full_tables() {
+    let (s, delivering, receiving) = trade();
+    let mut store = Store { directory: s.directory().clone(), ..Store::empty() };
+    store.directory.csds.count = 33;
+    let mut call = |command| Model.call(&mut store, &Call::Command(command));
+    assert_eq!(call(Command::Derive { delivering, receiving }), Answer::Refused(3));
+    assert_eq!(call(Command::EnterCsd(Csd { kind: 9, bic: [0; 11] })), Answer::Refused(4));
+    assert_eq!(call(Command::PayIn { account: FFFF, amount: Cents(0) }), Answer::Refused(4));
+    store.directory.csds.count = 5;
+    store.directory.csds.rows[31] = Csd { kind: 77, bic: [0; 11] };
+    let row = Csd { kind: IN_T2S, bic: bic(9) };
+    assert_eq!(Model.call(&mut store, &Call::Command(Command::EnterCsd(row))), Answer::Accepted);
+    assert_eq!(store.directory.csds.count, 6);
+    assert!(store.directory.csds.rows[5] == row && store.directory.csds.rows[31].kind == 77);
+}

@@ -1,0 +1,141 @@
+//! Desks that are wrong on purpose, each as document 01 warns of it. The trials must catch every one.
+
+use checker::command::Command;
+use checker::trial::coverage::Coverage;
+use checker::trial::differential;
+use checker::trial::implementation::{Answer, Call, Implementation, Model, Program, Store};
+
+/// A change of the model's answer and of the store that it left, given the store before.
+type Mistake = fn(&Call, &Store, &mut Store, Answer) -> Answer;
+
+struct WrongDesk(Mistake);
+
+impl Program for WrongDesk {
+    fn transcript(&mut self, input: &[u8]) -> Vec<u8> {
+        Model.transcript(input)
+    }
+}
+
+impl Implementation for WrongDesk {
+    fn call(&mut self, store: &mut Store, call: &Call) -> Answer {
+        let before = store.clone();
+        let answer = Model.call(store, call);
+        (self.0)(call, &before, store, answer)
+    }
+}
+
+/// Both kinds of trial notice the mistake.
+fn is_caught(mistake: Mistake) {
+    let mut coverage = Coverage::default();
+    let by_streams = (1..200).find_map(|seed| differential::stream(seed, &mut WrongDesk(mistake), &mut coverage).err());
+    let by_calls = (1..2000).find_map(|seed| differential::calls(seed, &mut WrongDesk(mistake), &mut coverage).err());
+    println!("{by_streams:?}\n{by_calls:?}");
+    assert!(by_streams.is_some() && by_calls.is_some());
+}
+
+#[test]
+fn booked_and_nothing_moved() {
+    is_caught(|_, before, store, answer| {
+        if matches!(answer, Answer::Booked(_)) {
+            store.positions.clone_from(&before.positions);
+        }
+        answer
+    });
+}
+
+#[test]
+fn first_step_only() {
+    is_caught(|call, before, store, answer| {
+        if let (Answer::Booked(2..), Call::Command(Command::Settle { delivering, .. })) = (answer, call) {
+            let place = |account: u16| usize::from(account) * 16 + usize::from(delivering.security);
+            let first = store.steps[0];
+            for (number, position) in store.positions.iter_mut().enumerate() {
+                if number != place(first.debit) && number != place(first.credit) {
+                    *position = before.positions[number];
+                }
+            }
+        }
+        answer
+    });
+}
+
+#[test]
+fn one_step_too_many() {
+    is_caught(|_, _, _, answer| match answer {
+        Answer::Chain(length) => Answer::Chain(length + 1),
+        _ => answer,
+    });
+}
+
+#[test]
+fn last_step_not_written() {
+    is_caught(|_, before, store, answer| {
+        if let Answer::Chain(length) | Answer::Booked(length) = answer {
+            store.steps[length - 1] = before.steps[length - 1];
+        }
+        answer
+    });
+}
+
+#[test]
+fn fourteen_unread() {
+    is_caught(|_, before, store, answer| match answer {
+        Answer::Refused(15..=18) => Answer::Refused(14),
+        Answer::Chain(_) => {
+            store.clone_from(before);
+            Answer::Refused(14)
+        }
+        _ => answer,
+    });
+}
+
+#[test]
+fn every_bring_in_refused() {
+    is_caught(|call, before, store, answer| {
+        if matches!(call, Call::Command(Command::BringIn { .. })) && answer == Answer::Accepted {
+            store.clone_from(before);
+            return Answer::Refused(19);
+        }
+        answer
+    });
+}
+
+#[test]
+fn a_refused_call_leaves_a_trace() {
+    is_caught(|_, _, store, answer| {
+        if answer == Answer::Refused(20) && store.steps.len() > 16 {
+            store.steps[16].csd ^= 1;
+        }
+        if answer == Answer::Refused(22) {
+            store.directory.links.rows[127].flag ^= 1;
+            store.positions[4095].0 ^= 1;
+        }
+        answer
+    });
+}
+
+#[test]
+fn cash_paid_the_wrong_way() {
+    is_caught(|call, _, store, answer| {
+        if let (Answer::Booked(_), Call::Command(Command::Settle { delivering, receiving })) = (answer, call) {
+            let amount = delivering.amount.0;
+            store.cash[usize::from(delivering.account)].0 -= 2 * amount;
+            store.cash[usize::from(receiving.account)].0 += 2 * amount;
+        }
+        answer
+    });
+}
+
+/// A failing stream comes down to the few commands that it takes.
+#[test]
+fn a_failing_stream_is_shortened() {
+    let mistake: Mistake = |call, _, _, answer| match (call, answer) {
+        (Call::Command(Command::PayIn { .. }), Answer::Accepted) => Answer::Refused(7),
+        _ => answer,
+    };
+    let mut fails =
+        |bytes: &[u8]| differential::stream_of(bytes, 1, &mut WrongDesk(mistake), &mut Coverage::default()).is_err();
+    let bytes = checker::trial::streams::stream(1);
+    let short = differential::shortened(&bytes, &mut fails);
+    assert!(fails(&short) && short.len() < 200, "{} of {} bytes", short.len(), bytes.len());
+}

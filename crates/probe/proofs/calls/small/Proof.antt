@@ -1,0 +1,16 @@
+-- Below 256 the number itself, else 255.
+use mathlib.Core.Path.{sym, ap}
+use native.Mathlib.Omega.{arith}
+use borrow.Author.Tests.{lt-ltb, le-ltb}
+use Rattle.probe.specs.Codes.{cappedBy}
+use Rattle.probe.proofs.calls.small.Statement.{statement}
+use Rattle.probe.proofs.calls.small.Tie as tie
+
+returns : tie.Need-returns
+returns c = (simp (lt-ltb _ _ (c .if1 .taken)), omega arith)
+
+returns-2 : tie.Need-returns-2
+returns-2 c = (simp (le-ltb _ _ (c .if1 .left)), omega arith)
+
+pub small-spec : {M : Type 1} → statement M
+small-spec = tie.close (tie.spec returns returns-2)
