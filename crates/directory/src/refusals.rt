@@ -43,7 +43,7 @@ ghost use Rattle.rules.specs.Directory.{secondUnknown, wrongAccounts, technical
 ghost use Rattle.rules.specs.Directory.{issuerBroken, flagBroken, alternativeOutside, investorBroken};
 
 // "The lowest number that applies is given", 0 where none does.
-fn lowest_of(
+pub fn lowest_of(
     five: bool,
     six: bool,
     seven: bool,

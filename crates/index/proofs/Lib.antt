@@ -1,0 +1,15 @@
+pub mod Growing
+pub mod Entering
+pub mod NewAccount
+pub mod NewCsd
+pub mod NewSecurity
+pub mod Empty
+pub mod Reading
+pub mod Leads
+pub mod LinkReading
+pub mod StepList
+pub mod Entered
+pub mod OneMore
+pub mod PairsGrow
+pub mod LinksGrow
+pub mod IsinReading

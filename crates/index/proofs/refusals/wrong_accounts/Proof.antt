@@ -1,0 +1,34 @@
+-- By cases on the technical issuer.
+use mathlib.Core.Path.{sym, _∙_}
+use borrow.Author.Needs.{needs}
+use Rattle.index.proofs.refusals.wrong_accounts.Statement.{statement}
+use Rattle.index.proofs.refusals.wrong_accounts.Tie as tie
+
+is-external-requires : tie.Need-is-external-requires
+is-external-requires c κs = search needs
+
+is-account-of-requires : tie.Need-is-account-of-requires
+is-account-of-requires c κs = search needs
+
+returns : tie.Need-returns
+returns c d h = rw (sym (c .before .before .is-external .ensures d h) ∙ c .before .if1 .taken, c .is-account-of .ensures d h)
+
+is-account-of-requires-2 : tie.Need-is-account-of-requires-2
+is-account-of-requires-2 c κs = search needs
+
+is-account-of-requires-3 : tie.Need-is-account-of-requires-3
+is-account-of-requires-3 c κs = search needs
+
+returns-2 : tie.Need-returns-2
+returns-2 c d h = rw (sym (c .before .before .before .is-external .ensures d h) ∙ c .before .before .if1 .left, c .before .is-account-of2 .ensures d h, c .is-account-of3 .ensures d h)
+
+pub wrong-accounts-spec : {M : Type 1} → statement M
+wrong-accounts-spec =
+    tie.close
+    (tie.spec
+    is-external-requires
+    is-account-of-requires
+    returns
+    is-account-of-requires-2
+    is-account-of-requires-3
+    returns-2)

@@ -1,0 +1,4 @@
+pub mod Index
+pub mod Bytes
+pub mod Leading
+pub mod Steps

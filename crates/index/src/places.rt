@@ -1,0 +1,70 @@
+// Where the numbers of an index stand (specs/Index has what each means).
+use rules::ACCOUNTS;
+use rules::CSDS;
+use rules::SECURITIES;
+ghost use mathlib.Core.Path.{_≡_};
+ghost use lib.ListN.{getD, set};
+
+// How many rows each table has.
+pub const CSD_COUNT: usize = 0;
+
+pub const SECURITY_COUNT: usize = 1;
+
+pub const ACCOUNT_COUNT: usize = 2;
+
+pub const PAIR_COUNT: usize = 3;
+
+pub const LINK_COUNT: usize = 4;
+
+// By CSD: its type.
+pub const TYPES: usize = 5;
+
+// By account: its CSD, its kind, whether it is in a pair.
+pub const HOMES: usize = TYPES + CSDS;
+
+pub const KINDS: usize = HOMES + ACCOUNTS;
+
+pub const PAIRED: usize = KINDS + ACCOUNTS;
+
+// By investor and technical issuer: the accounts of their pair.
+pub const MIRRORS: usize = PAIRED + ACCOUNTS;
+
+pub const OMNIBUSES: usize = MIRRORS + CSDS * CSDS;
+
+// By security and CSD: where the default walk leads, and the issuance account.
+pub const ROUTES: usize = OMNIBUSES + CSDS * CSDS;
+
+pub const ISSUANCES: usize = ROUTES + SECURITIES * CSDS;
+
+// By security, CSD and technical issuer: whether they are linked.
+pub const LINKED: usize = ISSUANCES + SECURITIES * CSDS;
+
+// The bytes of each CSD's BIC and of each security's ISIN.
+pub const BICS: usize = LINKED + SECURITIES * CSDS * CSDS;
+
+pub const ISINS: usize = BICS + 11 * CSDS;
+
+// How many numbers an index has.
+pub const INDEX: usize = ISINS + 12 * SECURITIES;
+
+// What stands at ROUTES for an issuer; for others it is one more than the technical issuer of the default link, and 0 without one.
+pub const ISSUER: u16 = 33;
+
+// The number at a place, 0 behind the end.
+pub fn entry(index: &[u16], place: usize) -> u16
+    ensures { λ r. ⌜ r ≡ getD (now (index .entry)) place 0 ⌝ }
+{
+    if place < index.len() {
+        return index[place];
+    }
+    0
+}
+
+// The number put at the place; nothing is put behind the end.
+pub fn store(index: &mut [u16], place: usize, value: u16)
+    ensures { λ _. ⌜ now (index .exit) ≡ set (now (index .entry)) place value ⌝ }
+{
+    if place < index.len() {
+        index[place] = value;
+    }
+}
