@@ -67,7 +67,7 @@ module _ (ps : List Pair) (l : List ℕ) (n a : ℕ) where
           inv ∙ rw (two-ahead, e, z) (behind-step xs (step lower b (p .mirror)) (climb ps (drop (i + 1) (take n l)) (p .omnibus)))
 
 -- ---- the first n steps of l turned, put behind xs one by one: ys has those passed, and i are left
-turned-last : (xs : List Step) (x : Step) → turned (xs ++ (x ∷ [])) ≡ flip x ∷ turned xs
+pub turned-last : (xs : List Step) (x : Step) → turned (xs ++ (x ∷ [])) ≡ flip x ∷ turned xs
 unfolding turned
 turned-last xs x = rw (map-append, reverse-append)
 

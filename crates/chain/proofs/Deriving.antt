@@ -35,12 +35,12 @@ lowest-then [] ds q = refl
 lowest-then (x ∷ cs) ds q = rw (q .0) (lowest-then cs ds (q .1))
 
 -- ---- a chain found, by its number
+pub by-refused : (n : ℕ) (ss : List Step) → (n ≡ 0 → ⊥) → chainBy n ss ≡ unchained n
+by-refused zero ss z = absurd (z refl)
+by-refused (suc n) ss z = refl
+
 pub chain-refused : (x : ChainFound) → (x .refusal ≡ 0 → ⊥) → chainIn x ≡ unchained (x .refusal)
-chain-refused x z = go (x .refusal) z
-  where
-    go : (n : ℕ) → (n ≡ 0 → ⊥) → chainBy n (stepRows (x .steps)) ≡ unchained n
-    go zero z = absurd (z refl)
-    go (suc n) z = refl
+chain-refused x z = by-refused (x .refusal) (stepRows (x .steps)) z
 
 pub chain-found : (x : ChainFound) → x .refusal ≡ 0 → chainIn x ≡ chained (stepRows (x .steps))
 chain-found x z = rw z

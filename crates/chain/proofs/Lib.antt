@@ -4,3 +4,6 @@ pub mod Routing
 pub mod Climbing
 pub mod Linking
 pub mod Deriving
+pub mod Alike
+pub mod IndexedWalks
+pub mod Putting

@@ -36,7 +36,7 @@ along-refused ps ls s a b x z = go (x .refusal) z
     go zero z = absurd (z refl)
     go (suc n) z = refl
 
-not-linked : (top : ℕ → ℕ → List Step) (f g : Bool) (xs ys : List Step) (v w : ℕ) → (f && g) ≡ false
+pub not-linked : (top : ℕ → ℕ → List Step) (f g : Bool) (xs ys : List Step) (v w : ℕ) → (f && g) ≡ false
     → linkUp top (cond f (climbed xs v) unpaired) (cond g (climbed ys w) unpaired) ≡ unchained 18
 not-linked top true true xs ys v w e = clash true refl e
 not-linked top true false xs ys v w e = refl

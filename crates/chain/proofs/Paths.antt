@@ -19,7 +19,7 @@ module _ (m : ℕ) (l : List ℕ) (n i : ℕ) where
   Passed = take i (take n l) ++ upTo m (drop i (take n l)) ≡ upTo m (take n l)
 
   module _ (g : i < n) (h : i < length l) where
-    taken-more : take (i + 1) (take n l) ≡ take i (take n l) ++ (getD l i 0 ∷ [])
+    pub taken-more : take (i + 1) (take n l) ≡ take i (take n l) ++ (getD l i 0 ∷ [])
     taken-more =
         let k : i < length (take n l) = rw length-take (omega arith) in
         rw (add-one, take-suc (take n l) i 0 k, getD-take n l i 0 g)

@@ -15,7 +15,7 @@ use Rattle.chain.specs.Walks.{Continues}
 use Rattle.chain.specs.declared.walks.Walk.{Walk as Walked}
 
 -- one CSD more is named
-more : (left c : ℕ) (path : List ℕ) → length path ≡ 8 → 0 < left → left ≤ 8
+pub more : (left c : ℕ) (path : List ℕ) → length path ≡ 8 → 0 < left → left ≤ 8
     → take (8 - left + 1) (set path (8 - left) c) ≡ take (8 - left) path ++ (c ∷ [])
 more left c path l p h =
     let k : 8 - left < length path = omega arith in

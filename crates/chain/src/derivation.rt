@@ -37,7 +37,8 @@ pub fn chain_of(directory: Directory, security: u8, delivering: u16, receiving: 
     )
 }
 
-fn refused(number: u8) -> Reply
+// No step is handed back with a refusal.
+pub fn refused(number: u8) -> Reply
     ensures { λ r. ⌜ (r .answer ≡ Refused number) × (r .steps .count ≡ 0) ⌝ }
 {
     let steps = no_steps();

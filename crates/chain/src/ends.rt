@@ -4,6 +4,7 @@ use rules::WalkEnd;
 ghost use mathlib.Core.Path.{_≡_};
 ghost use Rattle.rules.specs.Walks.{arrived, reached};
 ghost use Rattle.rules.specs.Chain.{judged};
+ghost use Rattle.chain.specs.Ends.{endAlike};
 
 // Whether a walk ended inside or outside.
 pub fn has_arrived(end: WalkEnd) -> bool
@@ -24,6 +25,23 @@ pub fn has_reached(target: u8, end: WalkEnd) -> bool
     match end {
         WalkEnd::Inside(csd) => csd == target,
         WalkEnd::Outside(_) => false,
+        WalkEnd::NoLink => false,
+        WalkEnd::TooLong => false,
+    }
+}
+
+// Whether both walks ended inside at one CSD, or both outside at one CSD.
+pub fn end_alike(delivering: WalkEnd, receiving: WalkEnd) -> bool
+    ensures { λ r. ⌜ r ≡ endAlike delivering receiving ⌝ }
+{
+    match delivering {
+        WalkEnd::Inside(csd) => has_reached(csd, receiving),
+        WalkEnd::Outside(csd) => match receiving {
+            WalkEnd::Inside(_) => false,
+            WalkEnd::Outside(other) => other == csd,
+            WalkEnd::NoLink => false,
+            WalkEnd::TooLong => false,
+        },
         WalkEnd::NoLink => false,
         WalkEnd::TooLong => false,
     }

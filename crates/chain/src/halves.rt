@@ -25,7 +25,7 @@ fn half_unknown(directory: Directory, half: Half) -> bool
     !account | (!counterpart | !security)
 }
 
-fn half_out_of_range(half: Half) -> bool
+pub(crate) fn half_out_of_range(half: Half) -> bool
     ensures { λ r. ⌜ r ≡ halfOutOfRange half ⌝ }
 {
     ((half.quantity == 0) | (LIMIT < half.quantity)) | (LIMIT < half.amount)

@@ -8,3 +8,4 @@ pub mod routes; // routes.rt: the CSDs of a chain in four cases
 pub mod steps; // steps.rt: its steps with accounts
 pub mod halves; // halves.rt: what refuses two halves before a chain is looked for
 pub mod derivation; // derivation.rt: the chain between two accounts, and the derivation for two halves
+pub mod indexed; // indexed.rt: the same over an index

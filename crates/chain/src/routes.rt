@@ -70,7 +70,7 @@ fn shared_csd(csds: CsdTable, delivering: Walk, receiving: Walk) -> CsdFound
     CsdFound::Missing
 }
 
-fn joined(join: Join, delivering: Side, receiving: Side) -> RouteFound
+pub fn joined(join: Join, delivering: Side, receiving: Side) -> RouteFound
     ensures { λ r. ⌜ routeOf r ≡ sides join (named delivering) (named receiving) ⌝ }
 {
     RouteFound {
@@ -82,7 +82,7 @@ fn joined(join: Join, delivering: Side, receiving: Side) -> RouteFound
 }
 
 // Two walks joined as their ends allow, or the refusal.
-fn by_ends(delivering: Walk, receiving: Walk) -> RouteFound
+pub fn by_ends(delivering: Walk, receiving: Walk) -> RouteFound
     ensures { λ r. ⌜ routeOf r ≡ joinedBy (judged (delivering .end) (receiving .end)) (named (delivering .side)) (named (receiving .side)) ⌝ }
 {
     let up = delivering.end;

@@ -18,7 +18,7 @@ use Rattle.rules.proofs.Facts.{Facts}
 use Rattle.rules.proofs.WalkRelation.{default-walk, walk-default}
 
 -- ---- paths
-named-in : (path : List ℕ) (c : ℕ) → isNamed path c ≡ true → List·Memᴰ c path
+pub named-in : (path : List ℕ) (c : ℕ) → isNamed path c ≡ true → List·Memᴰ c path
 unfolding isNamed
 named-in path c e =
     let x : (n : ℕ) × (List·Memᴰ n path) × (eqb c n ≡ true) = any-some (eqb c) path e in
@@ -40,7 +40,7 @@ first-place : (path : List ℕ) (m : ℕ) → List·Memᴰ m path → FirstIn (e
 first-place path m i = found-first (eqb m) path m (only-found (eqb m) path m i (eqb-true m m refl) (λ n _ e. sym (eqb-is m n e)))
 
 -- the test of a shared CSD
-abbrev isShared : List Csd → List ℕ → ℕ → Bool
+abbrev pub isShared : List Csd → List ℕ → ℕ → Bool
 isShared cs q c = not (external cs c) && isNamed q c
 
 module _ (r : Rows) (s D R : ℕ) where
