@@ -1,6 +1,6 @@
 -- The lowest number that applies, read both ways: what it makes of a call, and what holds where it is 0.
 use Prim.Native.Nat.{ℕ, zero, suc, _≤_}
-use mathlib.Core.Path.{_≡_, refl, ap}
+use mathlib.Core.Path.{_≡_, refl, sym, ap, _∙_}
 use mathlib.Core.Bool.{Bool, true, false, not, _||_, cond}
 use mathlib.Core.List.{List, [], _∷_, _++_}
 use native.Mathlib.Omega.{arith}
@@ -38,6 +38,9 @@ book-open true cash beyond e = absurd (omega arith)
 book-open false true beyond e = absurd (omega arith)
 book-open false false true e = absurd (omega arith)
 book-open false false false e = (refl, refl, refl)
+
+pub book-passed : (units cash a b : Bool) (n : ℕ) → n ≡ bookRefusal units cash (a || b) → n ≡ 0 → (a ≡ false) × (b ≡ false)
+book-passed units cash a b n e none = or-none a b (book-open units cash (a || b) (sym e ∙ none) .2)
 
 pub call-open : (unknown range kind : Bool) (n : ℕ) → cond unknown 6 (cond range 7 (cond kind 10 n)) ≡ 0 → (range ≡ false) × (n ≡ 0)
 call-open true range kind n e = absurd (omega arith)

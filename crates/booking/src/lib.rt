@@ -24,6 +24,7 @@ pub mod positions; // positions: 20 and 22 over all steps
 pub mod refusals; // the lowest number that applies
 pub mod settling; // settlement
 pub mod totals; // sums of balances, and of positions in a security
+pub mod indexed; // the same over an index
 
 // n as a change upwards or downwards.
 fn signed(n: u64, rises: bool) -> i64
@@ -60,6 +61,14 @@ fn add_cents(cash: &mut [i64], account: u16, z: Cents)
     ensures { λ _. ⌜ now (cash .exit) ≡ addCents (now (cash .entry)) account z ⌝ }
 {
     add_at(cash, account as usize, z.0);
+}
+
+// Units and units together.
+fn plus_units(x: Units, z: Units) -> Units
+    requires { ⌜ SFits w64 (x .0 +ℤ z .0) ⌝ }
+    ensures { λ r. ⌜ r ≡ plusUnits x z ⌝ }
+{
+    Units(x.0 + z.0)
 }
 
 // One step: quantity units from the account debited to the account credited.

@@ -15,7 +15,7 @@ ghost use Rattle.rules.specs.Calls.{core, pay};
 ghost use Rattle.booking.specs.Moves.{wayOf, lentCash};
 
 // 21: what is paid out must be there.
-fn pay_short(cash: &[i64], incoming: bool, account: u16, amount: u64) -> bool
+pub(crate) fn pay_short(cash: &[i64], incoming: bool, account: u16, amount: u64) -> bool
     ensures { λ r. ⌜ r ≡ payShort (wayOf incoming) (now (cash .entry)) account amount ⌝ }
 {
     if incoming {
@@ -25,7 +25,7 @@ fn pay_short(cash: &[i64], incoming: bool, account: u16, amount: u64) -> bool
 }
 
 // 22: the balance ends beyond ±10^15.
-fn pay_beyond(cash: &[i64], incoming: bool, account: u16, amount: u64) -> bool
+pub(crate) fn pay_beyond(cash: &[i64], incoming: bool, account: u16, amount: u64) -> bool
     ensures { λ r. ⌜ r ≡ cashBeyond (now (cash .entry)) account (payment (wayOf incoming) amount) ⌝ }
 {
     if incoming {

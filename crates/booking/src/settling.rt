@@ -5,20 +5,18 @@ use crate::pay;
 use crate::positions;
 use crate::refusals;
 use chain::derivation::chain_of;
+use chain::derivation::refused;
 use chain::halves::halves_refusal;
-use chain::steps::no_steps;
 use rules::Answer;
 use rules::Directory;
 use rules::Half;
 use rules::Reply;
 use rules::Steps;
 ghost use mathlib.Core.Path.{_≡_};
-ghost use mathlib.Core.List.{[]};
 ghost use Rattle.rules.specs.Tests.{lowest};
 ghost use Rattle.rules.specs.Directory.{rowsOf};
 ghost use Rattle.rules.specs.Chain.{stepRows};
 ghost use Rattle.rules.specs.Calls.{bookConditions};
-ghost use Rattle.rules.specs.declared.Answer.the-variants.{Refused};
 ghost use Rattle.booking.specs.Settling.{settled};
 
 // 20 over all steps, 21, then 22 over all changed numbers, judged on the lists as they are lent.
@@ -42,17 +40,6 @@ fn judge_booking(
     let units = positions::units_beyond(positions, security, quantity, steps);
     let payment = cash::payment_beyond(cash, payer, payee, amount);
     refusals::book_refusal(short, unpaid, units | payment)
-}
-
-// No step is handed back with a refusal.
-fn refused(number: u8) -> Reply
-    ensures { λ r. ⌜ (r .answer ≡ Refused number) × (stepRows (r .steps) ≡ []) ⌝ }
-{
-    let steps = no_steps();
-    Reply {
-        answer: Answer::Refused(number),
-        steps,
-    }
 }
 
 // 6 to 13 of the halves, 14 to 18 of their chain, 20 to 22 of its booking; then it is booked and paid for.

@@ -1,6 +1,7 @@
 // Totals: whole sums, refused 22 where a number that they add up is beyond ±10^15.
 use crate::amounts;
 use crate::cash;
+use crate::plus_units;
 use crate::positions;
 use directory::rows;
 use rules::AccountTable;
@@ -14,7 +15,7 @@ ghost use lib.IntN.{_+ℤ_};
 ghost use mir.Syntax.{w64};
 ghost use mir.Val.{SFits};
 ghost use Rattle.rules.specs.Directory.{accountRows, rowsOf};
-ghost use Rattle.rules.specs.Booking.{plusUnits, plusCents, securityTotal, cashTotal};
+ghost use Rattle.rules.specs.Booking.{plusCents, securityTotal, cashTotal};
 ghost use Rattle.booking.specs.Sums;
 ghost use Rattle.booking.specs.Sums.{participantTotal};
 
@@ -41,14 +42,6 @@ pub fn cash_total(cash: &[i64]) -> CashTotal
         account += 1;
     }
     CashTotal::SumCents(sum)
-}
-
-// Units and units together.
-fn plus_units(x: Units, z: Units) -> Units
-    requires { ⌜ SFits w64 (x .0 +ℤ z .0) ⌝ }
-    ensures { λ r. ⌜ r ≡ plusUnits x z ⌝ }
-{
-    Units(x.0 + z.0)
 }
 
 // What an account counts for: a participant's position, else nothing.

@@ -1,0 +1,103 @@
+-- Steps that stand as numbers in a list: one more of them judged, and one more booked.
+use mathlib.Core.Path.{_≡_, refl}
+use mathlib.Core.Logic.{⊎-elim}
+use mathlib.Core.Bool.{Bool, true, false, _||_}
+use mathlib.Core.List.{List, [], _∷_, _++_}
+use Prim.Native.Nat.{ℕ, zero, suc, _+_, _*_, _≤_, _<_}
+use native.Mathlib.Omega.{arith}
+use native.Mathlib.Numerals.{add-one}
+use native.Mathlib.Nat.{eq-or-lt-of-le, le-of-suc-le-suc}
+use lib.ListN.{length, length-append}
+use lib.IntN.{ℤ}
+use Rattle.rules.specs.declared.Account.{Account}
+use Rattle.rules.specs.declared.Step.{Step}
+use Rattle.rules.specs.Tests.{any}
+use Rattle.rules.specs.Chain.{stepLimit}
+use Rattle.rules.specs.Booking.{limit, moved, booked, stepShort, unitsShort, stepBeyond, unitsBeyond}
+use Rattle.rules.proofs.Basics.{or-none}
+use Rattle.index.specs.Steps.{stepAt, stepsIn}
+use Rattle.booking.specs.Room.{Room}
+use Rattle.booking.proofs.Booked.{Touch, Touches, touched, room, touches-moved}
+
+-- ---- the steps of a list
+steps-more : (b : List ℕ) (i : ℕ) → stepsIn b (i + 1) ≡ stepsIn b i ++ (stepAt b i ∷ [])
+unfolding stepsIn
+steps-more b i = rw (add-one i)
+
+pub steps-none : (b : List ℕ) → stepsIn b 0 ≡ []
+unfolding stepsIn
+steps-none b = refl
+
+pub steps-length : (b : List ℕ) (n : ℕ) → length (stepsIn b n) ≡ n
+unfolding stepsIn
+steps-length b zero = refl
+steps-length b (suc n) = omega (arith, length-append (stepsIn b n) (stepAt b n ∷ []), steps-length b n)
+
+-- ---- judged
+or-nothing : (a : Bool) → (a || false) ≡ a
+or-nothing true = refl
+or-nothing false = refl
+
+or-assoc : (a b c : Bool) → (a || (b || c)) ≡ ((a || b) || c)
+or-assoc true b c = refl
+or-assoc false b c = refl
+
+any-more : {A : Type 0} (f : A → Bool) (xs : List A) (x : A) → any f (xs ++ (x ∷ [])) ≡ (any f xs || f x)
+any-more f [] x = or-nothing (f x)
+any-more f (y ∷ xs) x = rw (any-more f xs x) (or-assoc (f y) (any f xs) (f x))
+
+module _ (b : List ℕ) (i : ℕ) (p : List ℤ) (s q : ℕ) (before now : Bool) where
+  pub short-more : (acc : List Account) → before ≡ unitsShort acc p s q (stepsIn b i) → now ≡ stepShort acc p s q (stepAt b i)
+      → (before || now) ≡ unitsShort acc p s q (stepsIn b (i + 1))
+  unfolding unitsShort
+  short-more acc e f = rw (steps-more b i, any-more (stepShort acc p s q) (stepsIn b i) (stepAt b i), e, f)
+
+  pub beyond-more : before ≡ unitsBeyond p s q (stepsIn b i) → now ≡ stepBeyond p s q (stepAt b i)
+      → (before || now) ≡ unitsBeyond p s q (stepsIn b (i + 1))
+  unfolding unitsBeyond
+  beyond-more e f = rw (steps-more b i, any-more (stepBeyond p s q) (stepsIn b i) (stepAt b i), e, f)
+
+pub short-none : (b : List ℕ) (acc : List Account) (p : List ℤ) (s q : ℕ) → false ≡ unitsShort acc p s q (stepsIn b 0)
+unfolding unitsShort stepsIn
+short-none b acc p s q = refl
+
+pub beyond-none : (b : List ℕ) (p : List ℤ) (s q : ℕ) → false ≡ unitsBeyond p s q (stepsIn b 0)
+unfolding unitsBeyond stepsIn
+beyond-none b p s q = refl
+
+-- what 22 lets pass it lets pass in part
+beyond-part : (b : List ℕ) (p : List ℤ) (s q n i : ℕ) → i ≤ n → unitsBeyond p s q (stepsIn b n) ≡ false → unitsBeyond p s q (stepsIn b i) ≡ false
+unfolding unitsBeyond stepsIn
+beyond-part b p s q zero i h e = let z : i ≡ 0 = omega arith in rw z
+beyond-part b p s q (suc n) i h e =
+    let o = or-none (any (stepBeyond p s q) (stepsIn b n)) (stepBeyond p s q (stepAt b n)) (rw (any-more (stepBeyond p s q) (stepsIn b n) (stepAt b n)) at e) in
+    ⊎-elim (λ z. rw z e) (λ l. beyond-part b p s q n i (le-of-suc-le-suc l) (o .0)) (eq-or-lt-of-le h)
+
+-- ---- booked
+booked-last : (xs : List Step) (x : Step) (s q : ℕ) (p : List ℤ) → booked (xs ++ (x ∷ [])) s q p ≡ moved x s q (booked xs s q p)
+unfolding booked
+booked-last [] x s q p = refl
+booked-last (y ∷ xs) x s q p = booked-last xs x s q (moved y s q p)
+
+touch-last : (xs : List Step) (x : Step) (m s q : ℕ) (p : List ℤ) → q ≤ limit → Touches m p s (xs ++ (x ∷ [])) → Touch (m + 2 * length xs) (booked xs s q p) s x
+unfolding Touches booked
+touch-last [] x m s q p h t = let e : m + 2 * 0 ≡ m = omega arith in rw e (t .0)
+touch-last (y ∷ xs) x m s q p h t =
+    let e : m + 2 * suc (length xs) ≡ m + 1 + 1 + 2 * length xs = omega arith in
+    rw e (touch-last xs x (m + 1 + 1) s q (moved y s q p) h (touches-moved m s q p h y (xs ++ (x ∷ [])) (t .1)))
+
+pub booked-none : (b : List ℕ) (s q : ℕ) (p : List ℤ) → p ≡ booked (stepsIn b 0) s q p
+unfolding booked stepsIn
+booked-none b s q p = refl
+
+module _ (b : List ℕ) (i s q : ℕ) (p : List ℤ) where
+  pub booked-more : moved (stepAt b i) s q (booked (stepsIn b i) s q p) ≡ booked (stepsIn b (i + 1)) s q p
+  booked-more = rw (steps-more b i, booked-last (stepsIn b i) (stepAt b i) s q p)
+
+  -- the step behind those booked has room
+  pub next-room : (n : ℕ) → q ≤ limit → n ≤ stepLimit → i < n → unitsBeyond p s q (stepsIn b n) ≡ false → Room (booked (stepsIn b i) s q p) s q (stepAt b i)
+  next-room n small few here e =
+      let passed = rw (steps-more b i) at (beyond-part b p s q n (i + 1) (omega arith) e) in
+      let touches = touched (stepsIn b i ++ (stepAt b i ∷ [])) s q p small passed in
+      room (2 + 2 * length (stepsIn b i)) s q (booked (stepsIn b i) s q p) small (stepAt b i) (omega (arith, steps-length b i))
+      (touch-last (stepsIn b i) (stepAt b i) 2 s q p small touches)

@@ -1,0 +1,38 @@
+-- What each test found, put into the definition of the refusal; where it is 0, none of them found anything.
+use borrow.Author.Needs.{needs}
+use mathlib.Core.Path.{sym, _∙_}
+use Rattle.booking.proofs.Refused.{book-passed}
+use Rattle.booking.proofs.indexed.settling.judge_booking.Statement.{statement}
+use Rattle.booking.proofs.indexed.settling.judge_booking.Tie as tie
+
+judge-steps-requires : tie.Need-judge-steps-requires
+judge-steps-requires c κs = search needs
+
+cash-short-requires : tie.Need-cash-short-requires
+cash-short-requires c κs = search needs
+
+payment-beyond-requires : tie.Need-payment-beyond-requires
+payment-beyond-requires c κs = search needs
+
+book-refusal-requires : tie.Need-book-refusal-requires
+book-refusal-requires c κs = search needs
+
+returns : tie.Need-returns
+returns c =
+    let payment = c .before .before .payment-beyond in
+    let unpaid = c .before .before .before .cash-short in
+    let units = c .before .before .before .before .judge-steps in
+    let passed = book-passed (units .result .short) (unpaid .result) (units .result .beyond) (payment .result) (c .book-refusal .result) (c .book-refusal .ensures) in (
+      λ d x n m. simp (payment .ensures, unpaid .ensures, units .ensures .0 d x n m, units .ensures .1 n m) at (c .book-refusal .ensures),
+      (λ z n m. sym (units .ensures .1 n m) ∙ passed z .0, λ z. sym (payment .ensures) ∙ passed z .1),
+    )
+
+pub judge-booking-spec : {M : Type 1} → statement M
+judge-booking-spec =
+    tie.close
+    (tie.spec
+    judge-steps-requires
+    cash-short-requires
+    payment-beyond-requires
+    book-refusal-requires
+    returns)
