@@ -1,9 +1,10 @@
--- The calls of the commands by kind, and the widths of their operands.
+-- The calls of the commands by kind and by byte, and the widths of their operands.
 use mathlib.Core.Path.{_≡_, refl, sym, ap, _∙_}
+use mathlib.Core.Logic.{_≢_}
 use mathlib.Core.Bool.{Bool, true, false, _&&_, cond}
 use mathlib.Core.List.{List, [], _∷_}
 use mathlib.Core.Option.{some}
-use Prim.Native.Nat.{ℕ, zero, suc, _≤_}
+use Prim.Native.Nat.{ℕ, zero, suc, _≤_, _<_}
 use native.Mathlib.Decide.{ℕ-discrete}
 use native.Mathlib.Omega.{arith}
 use lib.Dec.{eqb, leb}
@@ -12,10 +13,12 @@ use Rattle.rules.specs.declared.Half.{Half}
 use Rattle.rules.specs.Directory.{Row}
 use Rattle.rules.specs.Booking.{Way, positionCount, cashCount}
 use Rattle.rules.specs.Calls.{Store, Call, enter, move, pay, settle, derive, misfit}
-use Rattle.rules.specs.Stream.{widths, widthOf, callOf, programSteps}
-use Rattle.rules.proofs.Basics.{and-both, eqb-true, eqb-not, leb-is}
+use Rattle.rules.specs.Stream.{widths, widthOf, callOf, halfAt, programSteps}
+use Rattle.rules.proofs.Basics.{and-both, eqb-is, eqb-true, eqb-not, eqb-false, leb-is}
 use Rattle.rules.proofs.Running.{Ready}
-use Rattle.wire.proofs.Decoded.{known-tag}
+use Rattle.booking.specs.Moves.{wayOf}
+use Rattle.wire.specs.Operands.{moveIn, paymentIn}
+use Rattle.wire.proofs.Decoded.{bring-in-call, take-out-call, pay-in-call, pay-out-call, known-tag}
 
 -- ---- kinds
 
@@ -49,6 +52,45 @@ fits st ready tag o l =
 
     paid : eqb (length (st .cash)) cashCount ≡ true
     paid = eqb-true (length (st .cash)) cashCount (ready .cash)
+
+-- ---- the calls of 06 to 0B
+
+module _ (tag : ℕ) (o : List ℕ) where
+  -- 06 and 07
+  pub move-call : 6 ≤ tag → tag < 8 → callOf tag o ≡ move (wayOf (eqb tag 6)) (moveIn o .account) (moveIn o .security) (moveIn o .quantity)
+  move-call l h = go (eqb tag 6) refl
+    where
+      go : (b : Bool) → eqb tag 6 ≡ b → callOf tag o ≡ move (wayOf b) (moveIn o .account) (moveIn o .security) (moveIn o .quantity)
+      go true e = bring-in-call tag o (eqb-is tag 6 e)
+      go false e = let n : tag ≢ 6 = eqb-not tag 6 e in take-out-call tag o (omega arith)
+
+  -- 08 and 09
+  pub pay-call : 8 ≤ tag → tag < 10 → callOf tag o ≡ pay (wayOf (eqb tag 8)) (paymentIn o .account) (paymentIn o .amount)
+  pay-call l h = go (eqb tag 8) refl
+    where
+      go : (b : Bool) → eqb tag 8 ≡ b → callOf tag o ≡ pay (wayOf b) (paymentIn o .account) (paymentIn o .amount)
+      go true e = pay-in-call tag o (eqb-is tag 8 e)
+      go false e = let n : tag ≢ 8 = eqb-not tag 8 e in pay-out-call tag o (omega arith)
+
+  other : (n : ℕ) → n < tag → eqb tag n ≡ false
+  other n h = eqb-false tag n (omega arith)
+
+  -- 0B; a byte above it has no call of its own
+  pub derive-call : 11 ≤ tag → callOf tag o ≡ derive (halfAt o 0) (halfAt o 20) programSteps
+  unfolding callOf
+  derive-call h =
+      rw (
+        other 1 (omega arith),
+        other 2 (omega arith),
+        other 3 (omega arith),
+        other 4 (omega arith),
+        other 5 (omega arith),
+        other 6 (omega arith),
+        other 7 (omega arith),
+        other 8 (omega arith),
+        other 9 (omega arith),
+        other 10 (omega arith),
+      )
 
 -- ---- widths
 

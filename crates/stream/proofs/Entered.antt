@@ -1,6 +1,6 @@
 -- Every step of a chain over a sound directory stands in the books of an entered CSD, between two entered accounts: a side names the account's
 -- own CSD first, and then technical issuers of pairs. So the numbers of a step are small.
-use mathlib.Core.Path.{_≡_, refl, sym, ap}
+use mathlib.Core.Path.{_≡_, refl, sym}
 use mathlib.Core.Logic.{_≢_, _⊎_, inl, inr}
 use mathlib.Core.Bool.{true}
 use mathlib.Core.List.{List, [], _∷_, _++_, List·Memᴰ, List·Memᴰ·head, List·Memᴰ·tail, List·Memᴰ·append-cases}
@@ -14,8 +14,8 @@ use Rattle.rules.specs.Tests.{isRow}
 use Rattle.rules.specs.Directory.{Rows, csdLimit, accountLimit, isKind}
 use Rattle.rules.specs.Chain.{chained, turned, lastOf, homeOf, chain}
 use Rattle.rules.specs.Relations.{Walks, endsOutside, endsInside, endsWithoutLink, goesOn, Directs, arrives, takes, follows, Joins, same, meets, ahead, back, issuers, externals, Tops, oneStep, issuanceSteps, noStep, Climbs, stands, rises, ChainIs}
-use Rattle.rules.specs.Demands.{Touched, debited, credited, later}
 use Rattle.rules.proofs.Basics.{ltb-is}
+use Rattle.rules.proofs.Bookings.{touched-debited, touched-credited}
 use Rattle.rules.proofs.Facts.{Facts}
 use Rattle.rules.proofs.Trail.{Trail}
 use Rattle.rules.proofs.Accounts.{at-home}
@@ -106,10 +106,6 @@ known-small : (r : Rows) → Facts r → (c : ℕ) → isRow (r .csds) c ≡ tru
 unfolding isRow
 known-small r F c h = let l : c < length (r .csds) = ltb-is c (length (r .csds)) h in let m : length (r .csds) ≤ csdLimit = F .fewCsds in omega arith
 
-touches : (x : Step) (xs : List Step) → List·Memᴰ x xs → Touched (x .debited) xs × Touched (x .credited) xs
-touches x (y ∷ xs) (List·Memᴰ·head e) = (debited (ap (λ (z : Step). z .debited) e), credited (ap (λ (z : Step). z .credited) e))
-touches x (y ∷ xs) (List·Memᴰ·tail i) = let t = touches x xs i in (later (t .0), later (t .1))
-
 module _ (r : Rows) (F : Facts r) (s a b : ℕ) (steps : List Step) (ka : isKind (r .accounts) a 0 ≡ true) (kb : isKind (r .accounts) b 0 ≡ true) (ne : a ≢ b)
     (e : chain r s a b ≡ chained steps) where
   home-known : (c : ℕ) → isKind (r .accounts) c 0 ≡ true → isRow (r .csds) (homeOf (r .accounts) c) ≡ true
@@ -119,4 +115,4 @@ module _ (r : Rows) (F : Facts r) (s a b : ℕ) (steps : List Step) (ka : isKind
   steps-small x i =
       let t : Trail r a steps b = chain-trail r F s a b steps ka kb ne e in
       let known = chain-known r F s a b steps (home-known a ka) (home-known b kb) (chain-given-is r F s a b steps e) x i in
-      record { csd = known-small r F (x .csd) known; debited = t .small (x .debited) (touches x steps i .0); credited = t .small (x .credited) (touches x steps i .1) }
+      record { csd = known-small r F (x .csd) known; debited = t .small (x .debited) (touched-debited x steps i); credited = t .small (x .credited) (touched-credited x steps i) }

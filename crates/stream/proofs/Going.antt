@@ -7,7 +7,7 @@ use native.Mathlib.Numerals.{add-one}
 use native.Mathlib.Omega.{arith}
 use mathlib.Core.List.{List, [], _∷_, _++_, append-assoc}
 use lib.IntN.{ℤ}
-use lib.ListN.{length, take, drop, length-append, length-take}
+use lib.ListN.{length, take, drop, replicate, length-append, length-take}
 use lib.Seq.{length-take-le}
 use borrow.Author.Tests.{lt-ltb, le-ltb}
 use Rattle.rules.specs.declared.Account.{Account}
@@ -24,6 +24,9 @@ use Rattle.text.specs.Appended.{Appended}
 use Rattle.text.proofs.Appends.{Fitted, fits}
 use Rattle.text.proofs.Lengths.{short-total, short-cash}
 use Rattle.stream.specs.declared.turns.Turn.{Turn}
+use Rattle.index.specs.Index.{indexSize, Indexed}
+use Rattle.index.specs.Steps.{stepNumbers}
+use Rattle.index.proofs.Empty.{zeros-long, zeros-indexed}
 use Rattle.stream.specs.Obeyed.{store}
 use Rattle.stream.specs.Turns.{Told, told, Takes}
 use Rattle.stream.specs.Printed.{room, Printed}
@@ -60,9 +63,9 @@ pub record Going (s before out : List ℕ) (st : Store) (at number end : ℕ) : 
   pub bounded : Bounded st
   pub whole : take end out ++ linesFrom (length s - number) (number + 1) (drop at s) st ≡ linesFrom (length s) 1 s emptyStore
 
-going-empty : (s out : List ℕ) (st : Store) → st ≡ emptyStore → Going s out out st 0 0 0
-going-empty s out st e =
-    rw e (record {
+going-start : (s out : List ℕ) → Going s out out emptyStore 0 0 0
+going-start s out =
+    record {
       counted = omega arith;
       inside = omega arith;
       roomy = λ h. omega arith;
@@ -71,15 +74,11 @@ going-empty s out st e =
       ready = empty-ready;
       bounded = empty-bounded;
       whole = let z : length s - 0 ≡ length s = omega arith in rw z;
-    })
-
-pub going-start : (s out : List ℕ) (d : Directory) → d ≡ emptyDirectory → Going s out out (store d (zeros positionCount) (zeros cashCount)) 0 0 0
-unfolding emptyStore
-going-start s out d e = going-empty s out _ (ap (λ (x : Directory). store x (zeros positionCount) (zeros cashCount)) e)
+    }
 
 module _ (s before out : List ℕ) (st : Store) (at number end : ℕ) (g : Going s before out st at number end) (short : length s ≤ inputLimit) (large : room ≤ length before) where
   -- the text ends inside the output
-  pub ends-inside : end ≤ length out
+  ends-inside : end ≤ length out
   ends-inside = omega (arith, g .fits, g .inside, g .same)
 
   module _ (h : at < length s) where
@@ -89,8 +88,8 @@ module _ (s before out : List ℕ) (st : Store) (at number end : ℕ) (g : Going
     pub turn : Turned s (number + 1) at st here
     turn = turned s (number + 1) at st (omega (arith, g .counted)) h (g .ready) (g .bounded)
 
-    pub goes-on : (after : List ℕ) (p c : List ℤ) (t : Turn) → Takes here out end after t p c → Going s before after (store (t .directory) p c) (t .at) (number + 1) (t .end)
-    goes-on after p c t k =
+    goes-on : (after index : List ℕ) (p c : List ℤ) (t : Turn) → Takes here out end after t index p c → Going s before after (here .left) (t .at) (number + 1) (t .end)
+    goes-on after index p c t k =
         let m = turn in
         let on : t .at ≡ here .at = k .on in
         let text : Fitted out end after (t .end) (here .text) = fits (k .lines) (omega (arith, g .roomy h, g .same, m .fits, m .within)) in
@@ -101,9 +100,9 @@ module _ (s before out : List ℕ) (st : Store) (at number end : ℕ) (g : Going
           roomy = λ l. omega (arith, g .roomy h, text .ends, m .short (omega arith));
           fits = omega (arith, g .roomy h, text .ends, m .fits);
           same = text .same ∙ g .same;
-          ready = rw (k .left) (m .ready);
-          bounded = rw (k .left) (m .bounded);
-          whole = rw (k .left, on, text .front, append-assoc, add-one (number + 1), ← m .lines (length s - (number + 1)), ← fuel) (g .whole);
+          ready = m .ready;
+          bounded = m .bounded;
+          whole = rw (on, text .front, append-assoc, add-one (number + 1), ← m .lines (length s - (number + 1)), ← fuel) (g .whole);
         }
 
   -- what stands there once the end is told
@@ -113,6 +112,32 @@ module _ (s before out : List ℕ) (st : Store) (at number end : ℕ) (g : Going
       let text : Fitted out end after r (ending st) = fits a (omega (arith, g .fits, g .inside, g .same, ending-short st (g .ready))) in
       let w : take end out ++ ending st ≡ linesFrom (length s) 1 s emptyStore = rw (lines-end (length s - number) (number + 1) s at st h) at (g .whole) in
       (omega (arith, text .ends, ap length w, length-append (take end out) (ending st), length-take-le end out ends-inside), text .front ∙ w)
+
+-- ---- what the code holds in the loop
+
+-- the index of a directory, and the lists of the store that it makes up
+pub record Running (s before out index : List ℕ) (p c : List ℤ) (steps : List ℕ) (at number end : ℕ) : Type 0 where
+  pub directory : Directory
+  pub indexed : Indexed index directory
+  pub going : Going s before out (store directory p c) at number end
+  pub long : length steps ≡ stepNumbers
+
+pub running-start : (s out : List ℕ) → Running s out out (replicate indexSize 0) (zeros positionCount) (zeros cashCount) (replicate stepNumbers 0) 0 0 0
+unfolding emptyStore
+running-start s out = record { directory = emptyDirectory; indexed = zeros-indexed; going = going-start s out; long = zeros-long stepNumbers }
+
+module _ (s before out index : List ℕ) (p c : List ℤ) (steps : List ℕ) (at number end : ℕ) (r : Running s before out index p c steps at number end)
+    (short : length s ≤ inputLimit) (large : room ≤ length before) (h : at < length s) where
+  pub runs-on : (after index′ : List ℕ) (p′ c′ : List ℤ) (steps′ : List ℕ) (t : Turn)
+      → Takes (told s (number + 1) at (store (r .directory) p c)) out end after t index′ p′ c′ → length steps′ ≡ length steps
+      → Running s before after index′ p′ c′ steps′ (t .at) (number + 1) (t .end)
+  runs-on after index′ p′ c′ steps′ t k e =
+      record {
+        directory = told s (number + 1) at (store (r .directory) p c) .left .directory;
+        indexed = k .left .indexed;
+        going = rw (k .left .positions, k .left .cash) (goes-on s before out (store (r .directory) p c) at number end (r .going) short large h after index′ p′ c′ t k);
+        long = e ∙ r .long;
+      }
 
 -- ---- what a run prints
 

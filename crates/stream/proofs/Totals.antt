@@ -6,9 +6,10 @@ use native.Mathlib.Numerals.{add-one}
 use native.Mathlib.Omega.{arith}
 use mathlib.Core.Bool.{Bool, true, false, _&&_}
 use mathlib.Core.List.{List, [], _∷_, _++_, append-assoc, append-nil}
+use mathlib.Core.Option.{some}
 use lib.IntN.{ℤ}
-use lib.ListN.{length, take, getD, length-take}
-use lib.Seq.{take-suc, length-take-le}
+use lib.ListN.{length, take, getD, getElem?, length-take}
+use lib.Seq.{take-suc, take-all, take-take, length-take-le}
 use Rattle.rules.specs.declared.Account.{Account}
 use Rattle.rules.specs.declared.Directory.{Directory}
 use Rattle.rules.specs.declared.Security.{Security}
@@ -28,6 +29,8 @@ use Rattle.rules.proofs.Basics.{and-both, or-false, ltb-true, leb-is}
 use Rattle.rules.proofs.SoundParts.{limits}
 use Rattle.rules.proofs.Tables.{Sized}
 use Rattle.rules.proofs.Running.{Ready}
+use Rattle.text.specs.Appended.{Appended}
+use Rattle.text.proofs.Appends.{then, named}
 use Rattle.stream.specs.Ending.{Totalled}
 use Rattle.stream.proofs.Keeping.{Bounded}
 
@@ -41,12 +44,39 @@ module _ (acc : List Account) (p : List ℤ) where
       ∙ sym (append-assoc (totalLine (x .isin) (participantSum acc p s)) (totalLines acc p (suc s) xs) (totalLines acc p (s + suc (length xs)) ys))
 
   -- one security more
-  pub total-more : (xs : List Security) (i : ℕ) (d : Security) → i < length xs
+  total-more : (xs : List Security) (i : ℕ) (d : Security) → i < length xs
       → totalLines acc p 0 (take i xs) ++ totalLine (getD xs i d .isin) (participantSum acc p i) ≡ totalLines acc p 0 (take (i + 1) xs)
   unfolding totalLines
   total-more xs i d h =
       let e : 0 + length (take i xs) ≡ i = omega (arith, length-take-le i xs (omega arith)) in
       rw (add-one i, take-suc xs i d h, lines-append 0 (take i xs) (getD xs i d ∷ []), e, append-nil)
+
+-- the security at a place in use
+row-at : (xs : List Security) (i : ℕ) (d : Security) → i < length xs → getElem? xs i ≡ some (getD xs i d)
+row-at [] i d h = absurd (omega arith)
+row-at (x ∷ xs) zero d h = refl
+row-at (x ∷ xs) (suc i) d h = row-at xs i d (omega arith)
+
+-- a line shows 12 bytes
+twelve : (isin : List ℕ) (z : Units) → totalLine (take 12 isin) z ≡ totalLine isin z
+unfolding totalLine
+twelve isin z = rw (take-take 12 12 isin (omega arith))
+
+module _ (acc : List Account) (p : List ℤ) (xs : List Security) (i : ℕ) where
+  -- its line behind those before it
+  pub one-more : (isin : List ℕ) (z : Units) {before out after : List ℕ} {at end last : ℕ} → i < length xs
+      → ((x : Security) → getElem? xs i ≡ some x → isin ≡ take 12 (x .isin)) → z ≡ participantSum acc p i
+      → Appended before at out end (totalLines acc p 0 (take i xs)) → Appended out end after last (totalLine isin z)
+      → Appended before at after last (totalLines acc p 0 (take (i + 1) xs))
+  one-more isin z h is sum a b =
+      let x : Security = getD xs i (record { isin = [] }) in
+      let line : totalLine isin z ≡ totalLine (x .isin) (participantSum acc p i) = rw (is x (row-at xs i (record { isin = [] }) h), sum) (twelve (x .isin) (participantSum acc p i)) in
+      named (total-more acc p xs i (record { isin = [] }) h) (then a (named line b))
+
+  -- no security is left
+  pub all-rows : {before out : List ℕ} {at end : ℕ} → length xs ≤ i → Appended before at out end (totalLines acc p 0 (take i xs))
+      → Appended before at out end (totalLines acc p 0 xs)
+  all-rows h a = named (ap (totalLines acc p 0) (take-all i xs h)) a
 
 -- ---- a total that is not refused
 
@@ -87,7 +117,6 @@ unfolding securityTotal cashTotal
 totalled st h b =
     let few : st .directory .securities .count ≤ securityLimit = few-securities (st .directory) (h .soundBooks) in
     record {
-      few = few;
       units = λ s l.
           rw (
             entered (st .directory) (h .sized) few s l,

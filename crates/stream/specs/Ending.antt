@@ -1,12 +1,12 @@
 -- The totals of a stream's store. Assumes nothing.
 use mathlib.Core.Path.{_≡_}
-use Prim.Native.Nat.{ℕ, _≤_, _<_}
+use Prim.Native.Nat.{ℕ, _<_}
 use mathlib.Core.List.{List}
 use lib.IntN.{ℤ}
 use Rattle.rules.specs.declared.Directory.{Directory}
 use Rattle.rules.specs.declared.SecurityTotal.the-variants.{SumUnits}
 use Rattle.rules.specs.declared.CashTotal.the-variants.{SumCents}
-use Rattle.rules.specs.Directory.{securityLimit, accountRows, rowsOf}
+use Rattle.rules.specs.Directory.{accountRows, rowsOf}
 use Rattle.rules.specs.Booking.{participantSum, cashSum, securityTotal, cashTotal}
 use Rattle.rules.specs.Calls.{Store}
 
@@ -20,6 +20,5 @@ CentsTotalled c = cashTotal c ≡ SumCents (cashSum c)
 
 -- No total is refused, since no number is beyond ±10^15.
 pub record Totalled (st : Store) : Type 0 where
-  pub few : st .directory .securities .count ≤ securityLimit
   pub units : (s : ℕ) → s < st .directory .securities .count → UnitsTotalled (st .directory) (st .positions) s
   pub cents : CentsTotalled (st .cash)

@@ -12,7 +12,7 @@ use Rattle.text.specs.Appended.{Appended}
 use Rattle.wire.specs.Commands.{nextAt}
 use Rattle.wire.specs.declared.commands.Next.{Next}
 use Rattle.wire.specs.declared.commands.Next.the-variants.{End, Unknown, Cut, Command}
-use Rattle.stream.specs.Obeyed.{store}
+use Rattle.stream.specs.Obeyed.{Holds}
 use Rattle.stream.specs.declared.turns.Turn.{Turn}
 
 -- What one command prints, the place of the next, and the store after it.
@@ -41,7 +41,7 @@ unfoldable pub told : List ℕ → ℕ → ℕ → Store → Told
 told input n at st = toldBy input n at st (nextAt input at)
 
 -- The code has taken the turn: the lines stand behind the text before, and the place and the store are the next command's.
-pub record Takes (t : Told) (before : List ℕ) (end : ℕ) (after : List ℕ) (r : Turn) (positions cash : List ℤ) : Type 0 where
+pub record Takes (t : Told) (before : List ℕ) (end : ℕ) (after : List ℕ) (r : Turn) (index : List ℕ) (positions cash : List ℤ) : Type 0 where
   pub lines : Appended before end after (r .end) (t .text)
   pub on : r .at ≡ t .at
-  pub left : store (r .directory) positions cash ≡ t .left
+  pub left : Holds index positions cash (t .left)

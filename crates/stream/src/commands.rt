@@ -1,22 +1,15 @@
-// Commands obeyed: the operands decoded, and the call's core made. Lists lent and soundness are not judged here, since a stream's store fits and
-// is sound at every command (proofs/Turned).
-use booking::moves::bring_in_core;
-use booking::moves::take_out_core;
-use booking::payments::pay_in_core;
-use booking::payments::pay_out_core;
-use booking::settling::settle_core;
-use chain::derivation::derive_core;
-use directory::entries::enter_account;
-use directory::entries::enter_csd;
-use directory::entries::enter_link;
-use directory::entries::enter_pair;
-use directory::entries::enter_security;
+// Commands obeyed: the operands decoded, and the call made over the index. Lists lent and soundness are not judged here, since a stream's store fits
+// and is sound at every command (proofs/Turned).
+use booking::indexed::moves::move_securities;
+use booking::indexed::payments::move_cash;
+use booking::indexed::settling::settle;
+use chain::indexed::derivation::derive;
+use index::entries::enter_account;
+use index::entries::enter_csd;
+use index::entries::enter_link;
+use index::entries::enter_pair;
+use index::entries::enter_security;
 use rules::Answer;
-use rules::Directory;
-use rules::Entered;
-use rules::Reply;
-use rules::STEPS;
-use rules::Step;
 use wire::operands::decode_account;
 use wire::operands::decode_csd;
 use wire::operands::decode_delivering;
@@ -30,169 +23,100 @@ ghost use mathlib.Core.Path.{_≡_};
 ghost use mathlib.Core.List.{List};
 ghost use Prim.Native.Nat.{_≤_, _<_};
 ghost use lib.IntN.{ℤ};
-ghost use Rattle.rules.specs.Calls.{core, settle, derive};
-ghost use Rattle.rules.specs.Stream.{callOf, halfAt, programSteps};
-ghost use Rattle.stream.specs.Obeyed.{store, Whole, plain, withSteps, Obeys, ObeysAlone};
-
-// What a command answers, its steps by value, and the directory after it.
-pub struct Obeyed {
-    pub answer: Answer,
-    pub steps: [Step; STEPS],
-    pub directory: Directory,
-}
-
-// An answer without steps.
-fn plain(answer: Answer, directory: Directory) -> Obeyed
-    ensures { λ r. ⌜ r ≡ plain answer directory ⌝ }
-{
-    let none = Step {
-        csd: 0,
-        debited: 0,
-        credited: 0,
-    };
-    Obeyed {
-        answer,
-        steps: [none; STEPS],
-        directory,
-    }
-}
-
-fn after_entry(entered: Entered) -> Obeyed
-    ensures { λ r. ⌜ r ≡ plain (entered .answer) (entered .directory) ⌝ }
-{
-    let answer = entered.answer;
-    let directory = entered.directory;
-    plain(answer, directory)
-}
-
-fn with_steps(reply: Reply, directory: Directory) -> Obeyed
-    ensures { λ r. ⌜ r ≡ withSteps reply directory ⌝ }
-{
-    let answer = reply.answer;
-    let steps = reply.steps;
-    let rows = steps.rows;
-    Obeyed {
-        answer,
-        steps: rows,
-        directory,
-    }
-}
+ghost use lib.ListN.{length};
+ghost use Rattle.rules.specs.declared.Directory.{Directory};
+ghost use Rattle.rules.specs.Calls.{core};
+ghost use Rattle.rules.specs.Stream.{callOf};
+ghost use Rattle.index.specs.Index.{Indexed};
+ghost use Rattle.index.specs.Steps.{stepNumbers};
+ghost use Rattle.stream.specs.Obeyed.{store, Whole, Enters, Moves, Pays, Obeys};
 
 // 01 to 05, where the operands are whole.
-fn enter(directory: Directory, tag: u8, operands: &[u8]) -> Obeyed
+fn enter(index: &mut [u16], tag: u8, operands: &[u8]) -> Answer
     requires { ⌜ tag < 6 ⌝ }
-    ensures { λ r. ⌜ (Whole tag (now (operands .entry)) → ObeysAlone (callOf tag (now (operands .entry))) directory r) ⌝ }
+    ensures { λ r. ⌜ ((d : Directory) → Indexed (now (index .entry)) d → Whole tag (now (operands .entry)) → Enters (callOf tag (now (operands .entry))) d r (now (index .exit))) ⌝ }
 {
     if tag == 1 {
-        let row = decode_csd(operands);
-        let bic = row.bic;
-        return after_entry(enter_csd(directory, row.external, bic));
+        return enter_csd(index, decode_csd(operands));
     }
     if tag == 2 {
-        let row = decode_security(operands);
-        let isin = row.isin;
-        return after_entry(enter_security(directory, isin));
+        return enter_security(index, decode_security(operands));
     }
     if tag == 3 {
-        let row = decode_account(operands);
-        return after_entry(enter_account(directory, row.csd, row.kind));
+        return enter_account(index, decode_account(operands));
     }
     if tag == 4 {
-        return after_entry(enter_pair(directory, decode_pair(operands)));
+        return enter_pair(index, decode_pair(operands));
     }
-    after_entry(enter_link(directory, decode_link(operands)))
+    enter_link(index, decode_link(operands))
 }
 
 // 06 and 07, whatever the cash.
-fn move_units(directory: Directory, positions: &mut [i64], tag: u8, operands: &[u8]) -> Obeyed
+fn move_units(index: &[u16], positions: &mut [i64], tag: u8, operands: &[u8]) -> Answer
     requires { ⌜ (6 ≤ tag) × (tag < 8) ⌝ }
-    ensures { λ r. ⌜ ((cash : List ℤ) → Obeys (core (callOf tag (now (operands .entry))) (store directory (now (positions .entry)) cash)) r (now (positions .exit)) cash) ⌝ }
+    ensures { λ r. ⌜ ((d : Directory) → Indexed (now (index .entry)) d → Moves (callOf tag (now (operands .entry))) d (now (positions .entry)) r (now (positions .exit))) ⌝ }
 {
     let asked = decode_move(operands);
-    if tag == 6 {
-        return plain(
-            bring_in_core(
-                directory,
-                positions,
-                asked.account,
-                asked.security,
-                asked.quantity,
-            ),
-            directory,
-        );
-    }
-    plain(
-        take_out_core(
-            directory,
-            positions,
-            asked.account,
-            asked.security,
-            asked.quantity,
-        ),
-        directory,
+    move_securities(
+        index,
+        positions,
+        tag == 6,
+        asked.account,
+        asked.security,
+        asked.quantity,
     )
 }
 
 // 08 and 09, whatever the positions.
-fn move_cash(directory: Directory, cash: &mut [i64], tag: u8, operands: &[u8]) -> Obeyed
+fn move_money(index: &[u16], cash: &mut [i64], tag: u8, operands: &[u8]) -> Answer
     requires { ⌜ (8 ≤ tag) × (tag < 10) ⌝ }
-    ensures { λ r. ⌜ ((positions : List ℤ) → Obeys (core (callOf tag (now (operands .entry))) (store directory positions (now (cash .entry)))) r positions (now (cash .exit))) ⌝ }
+    ensures { λ r. ⌜ ((d : Directory) → Indexed (now (index .entry)) d → Pays (callOf tag (now (operands .entry))) d (now (cash .entry)) r (now (cash .exit))) ⌝ }
 {
     let asked = decode_payment(operands);
-    if tag == 8 {
-        return plain(
-            pay_in_core(directory, cash, asked.account, asked.amount),
-            directory,
-        );
+    move_cash(index, cash, tag == 8, asked.account, asked.amount)
+}
+
+// 0A and 0B.
+fn instruct(
+    index: &[u16],
+    positions: &mut [i64],
+    cash: &mut [i64],
+    steps: &mut [u16],
+    tag: u8,
+    operands: &[u8],
+) -> Answer
+    requires { ⌜ 10 ≤ tag ⌝ }
+    ensures obeys { λ r. ⌜ ((d : Directory) → Indexed (now (index .entry)) d → length (now (steps .entry)) ≡ stepNumbers → Obeys (core (callOf tag (now (operands .entry))) (store d (now (positions .entry)) (now (cash .entry)))) r (now (steps .exit)) (now (index .entry)) (now (positions .exit)) (now (cash .exit))) ⌝ }
+    ensures same { λ r. ⌜ length (now (steps .exit)) ≡ length (now (steps .entry)) ⌝ }
+{
+    let delivering = decode_delivering(operands);
+    let receiving = decode_receiving(operands);
+    if tag == 10 {
+        return settle(index, positions, cash, steps, delivering, receiving);
     }
-    plain(
-        pay_out_core(directory, cash, asked.account, asked.amount),
-        directory,
-    )
-}
-
-// 0A.
-fn settle(directory: Directory, positions: &mut [i64], cash: &mut [i64], operands: &[u8]) -> Obeyed
-    ensures { λ r. ⌜ Obeys (core (settle (halfAt (now (operands .entry)) 0) (halfAt (now (operands .entry)) 20) programSteps) (store directory (now (positions .entry)) (now (cash .entry)))) r (now (positions .exit)) (now (cash .exit)) ⌝ }
-{
-    let delivering = decode_delivering(operands);
-    let receiving = decode_receiving(operands);
-    with_steps(
-        settle_core(directory, positions, cash, delivering, receiving),
-        directory,
-    )
-}
-
-// 0B.
-fn derive(directory: Directory, operands: &[u8]) -> Obeyed
-    ensures { λ r. ⌜ ObeysAlone (derive (halfAt (now (operands .entry)) 0) (halfAt (now (operands .entry)) 20) programSteps) directory r ⌝ }
-{
-    let delivering = decode_delivering(operands);
-    let receiving = decode_receiving(operands);
-    with_steps(derive_core(directory, delivering, receiving), directory)
+    derive(index, steps, delivering, receiving)
 }
 
 // The command `tag`, where its operands are whole.
 pub(crate) fn obey(
-    directory: Directory,
+    index: &mut [u16],
     positions: &mut [i64],
     cash: &mut [i64],
+    steps: &mut [u16],
     tag: u8,
     operands: &[u8],
-) -> Obeyed
-    ensures { λ r. ⌜ (Whole tag (now (operands .entry)) → Obeys (core (callOf tag (now (operands .entry))) (store directory (now (positions .entry)) (now (cash .entry)))) r (now (positions .exit)) (now (cash .exit))) ⌝ }
+) -> Answer
+    ensures obeys { λ r. ⌜ ((d : Directory) → Indexed (now (index .entry)) d → length (now (steps .entry)) ≡ stepNumbers → Whole tag (now (operands .entry)) → Obeys (core (callOf tag (now (operands .entry))) (store d (now (positions .entry)) (now (cash .entry)))) r (now (steps .exit)) (now (index .exit)) (now (positions .exit)) (now (cash .exit))) ⌝ }
+    ensures same { λ r. ⌜ length (now (steps .exit)) ≡ length (now (steps .entry)) ⌝ }
 {
     if tag < 6 {
-        return enter(directory, tag, operands);
+        return enter(index, tag, operands);
     }
     if tag < 8 {
-        return move_units(directory, positions, tag, operands);
+        return move_units(index, positions, tag, operands);
     }
     if tag < 10 {
-        return move_cash(directory, cash, tag, operands);
+        return move_money(index, cash, tag, operands);
     }
-    if tag == 10 {
-        return settle(directory, positions, cash, operands);
-    }
-    derive(directory, operands)
+    instruct(index, positions, cash, steps, tag, operands)
 }

@@ -89,6 +89,20 @@ more word i h a b =
     let e : take i word ++ (getD word i 0 ∷ []) ≡ take (i + 1) word = rw add-one (sym (take-suc word i 0 h)) in
     named e (then a b)
 
+-- ---- bytes written one after another, where there is room
+
+-- one byte more behind a text
+pub one-more : {out out₁ x : List ℕ} {at mid : ℕ} (end b : ℕ) → Appended out at out₁ mid x → mid < length out → end ≡ mid + 1
+    → Appended out at (set out₁ mid b) end (x ++ (b ∷ []))
+one-more {out} {out₁} {x} {at} {mid} end b a h e = rw e (then a (one-byte out₁ mid b (omega (arith, a .same))))
+
+pub two-bytes : (out : List ℕ) (at a b : ℕ) → at + 1 < length out → Appended out at (set (set out at a) (at + 1) b) (at + 2) (a ∷ (b ∷ []))
+two-bytes out at a b h = one-more (at + 2) b (one-byte out at a (omega arith)) h (omega arith)
+
+pub three-bytes : (out : List ℕ) (at a b c : ℕ) → at + 2 < length out
+    → Appended out at (set (set (set out at a) (at + 1) b) (at + 2) c) (at + 3) (a ∷ (b ∷ (c ∷ [])))
+three-bytes out at a b c h = one-more (at + 3) c (two-bytes out at a b (omega arith)) h (omega arith)
+
 -- ---- the front of the buffer
 
 -- it can be lent as a part of the buffer

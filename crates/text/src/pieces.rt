@@ -1,6 +1,6 @@
 // Words and numbers.
 ghost use mathlib.Core.Path.{_≡_};
-ghost use Prim.Native.Nat.{min};
+ghost use Prim.Native.Nat.{min, _+_, _/_, _%_, _<_};
 ghost use mathlib.Core.List.{_∷_, [], _++_};
 ghost use lib.IntN.{natAbs};
 ghost use Rattle.rules.specs.Stream.{digits, decimal, signed};
@@ -49,10 +49,48 @@ fn put_digits(out: &mut [u8], at: usize, n: u64, k: usize) -> usize
     put_byte(out, before, digit)
 }
 
-// 20 digits are enough for any number of 64 bits.
+// The last decimal digit of n.
+pub(crate) fn last_digit(n: u64) -> u8
+    ensures { λ r. ⌜ r ≡ n % 10 + 48 ⌝ }
+{
+    (n % 10) as u8 + b'0'
+}
+
+// The last three decimal digits of n.
+fn put_three(out: &mut [u8], at: usize, n: u64) -> usize
+    ensures { λ r. ⌜ Appended (now (out .entry)) at (now (out .exit)) r ((n / 100 % 10 + 48) ∷ ((n / 10 % 10 + 48) ∷ ((n % 10 + 48) ∷ []))) ⌝ }
+{
+    let hundreds = put_byte(out, at, last_digit(n / 100));
+    let tens = put_byte(out, hundreds, last_digit(n / 10));
+    put_byte(out, tens, last_digit(n))
+}
+
+// A number of at most three digits.
+fn put_few(out: &mut [u8], at: usize, n: u64) -> usize
+    requires { ⌜ n < 1_000 ⌝ }
+    ensures { λ r. ⌜ Appended (now (out .entry)) at (now (out .exit)) r (decimal n) ⌝ }
+{
+    if n < 10 {
+        return put_byte(out, at, last_digit(n));
+    }
+    if n < 100 {
+        let tens = put_byte(out, at, last_digit(n / 10));
+        return put_byte(out, tens, last_digit(n));
+    }
+    put_three(out, at, n)
+}
+
+// A number in decimal digits: three at a time below a million, else one after another; 20 are enough for any number of 64 bits.
 pub fn put_decimal(out: &mut [u8], at: usize, n: u64) -> usize
     ensures { λ r. ⌜ Appended (now (out .entry)) at (now (out .exit)) r (decimal n) ⌝ }
 {
+    if n < 1_000 {
+        return put_few(out, at, n);
+    }
+    if n < 1_000_000 {
+        let thousands = put_few(out, at, n / 1_000);
+        return put_three(out, thousands, n);
+    }
     put_digits(out, at, n, 20)
 }
 

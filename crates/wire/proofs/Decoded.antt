@@ -65,10 +65,6 @@ module _ (tag : ℕ) (o : List ℕ) where
   unfolding callOf
   settle-call e = rw e
 
-  pub derive-call : tag ≡ 11 → callOf tag o ≡ derive (halfAt o 0) (halfAt o 20) programSteps
-  unfolding callOf
-  derive-call e = rw e
-
 -- a byte with a width is a command
 pub known-tag : (tag w : ℕ) → widthOf tag ≡ some w → (1 ≤ tag) × (tag ≤ 11)
 known-tag zero w e = let z : _≡_ {A = ℕ} 0 1 = cc in absurd (omega arith)

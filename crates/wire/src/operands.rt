@@ -38,8 +38,23 @@ fn wide(x: u8) -> u64
     x as u64
 }
 
-// The number of the `width` bytes from index `at` on.
-fn number_at(operands: &[u8], at: usize, width: usize) -> u64
+// The number of the `width` bytes from index `at` on, all of which the part has.
+fn whole_at(operands: &[u8], at: usize, width: usize) -> u64
+    requires { ⌜ (width ≤ 8) × (at + width ≤ length (now operands)) ⌝ }
+    ensures value { λ r. ⌜ r ≡ numberAt (now (operands .entry)) at width ⌝ }
+    ensures below { λ r. ⌜ r < 256 ^ width ⌝ }
+{
+    let mut number: u64 = 0;
+    let mut i: usize = 0;
+    while i < width {
+        number = number * 256 + wide(operands[at + i]);
+        i += 1;
+    }
+    number
+}
+
+// The same where the part may lack some of them.
+fn padded_at(operands: &[u8], at: usize, width: usize) -> u64
     requires { ⌜ (width ≤ 8) × (at < 256) ⌝ }
     ensures value { λ r. ⌜ r ≡ numberAt (now (operands .entry)) at width ⌝ }
     ensures below { λ r. ⌜ r < 256 ^ width ⌝ }
@@ -51,6 +66,18 @@ fn number_at(operands: &[u8], at: usize, width: usize) -> u64
         i += 1;
     }
     number
+}
+
+// The number of the `width` bytes from index `at` on.
+fn number_at(operands: &[u8], at: usize, width: usize) -> u64
+    requires { ⌜ (width ≤ 8) × (at < 256) ⌝ }
+    ensures value { λ r. ⌜ r ≡ numberAt (now (operands .entry)) at width ⌝ }
+    ensures below { λ r. ⌜ r < 256 ^ width ⌝ }
+{
+    if at + width <= operands.len() {
+        return whole_at(operands, at, width);
+    }
+    padded_at(operands, at, width)
 }
 
 fn one_byte(operands: &[u8], at: usize) -> u8

@@ -1,5 +1,7 @@
 -- `stream::put_ending` meets its contract: the totals, then the cash. Assumes nothing.
 use mathlib.Core.Path.{ap}
+use native.Mathlib.Omega.{arith}
+use lib.ListN.{length-take}
 use Rattle.rules.specs.Stream.{cashLine, ending}
 use Rattle.text.proofs.Appends.{then, named}
 use borrow.Author.Needs.{needs}
@@ -7,10 +9,10 @@ use Rattle.stream.proofs.put_ending.Statement.{statement}
 use Rattle.stream.proofs.put_ending.Tie as tie
 
 put-totals-requires : tie.Need-put-totals-requires
-put-totals-requires c κs = let s = c .before .before in (s .pre .0, s .pre .1 .few, s .pre .1 .units)
+put-totals-requires c κs = search needs
 
 cents-of-requires : tie.Need-cents-of-requires
-cents-of-requires c κs = c .before .before .before .before .before .before .pre .1 .cents
+cents-of-requires c κs = search needs
 
 put-cash-requires : tie.Need-put-cash-requires
 put-cash-requires c κs = search needs
@@ -20,7 +22,9 @@ same-length c = search needs
 
 returns : tie.Need-returns
 unfolding ending
-returns c = then (c .before .before .before .before .before .before .before .put-totals .ensures) (named (ap cashLine (c .before .before .before .cents-of .ensures)) (c .before .before .put-cash .ensures))
+returns c = λ d x t.
+    then (c .before .before .before .before .before .before .before .put-totals .ensures d x (λ s l. t .units s (omega (arith, length-take (d .securities .count) (d .securities .rows)))))
+    (named (ap cashLine (c .before .before .before .cents-of .ensures)) (c .before .before .put-cash .ensures))
 
 pub put-ending-spec : {M : Type 1} → statement M
 put-ending-spec =

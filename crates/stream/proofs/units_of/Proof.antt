@@ -15,14 +15,10 @@ enum-told : tie.Need-enum-told
 enum-told c = search needs
 
 returns : tie.Need-returns
-returns c =
-    let s = c .before .before .before .before in
-    units-are (c .before .sum .given .1) (c .before .before .before .security-total .ensures ∙ s .pre)
+returns c = λ d x u. units-are (c .before .sum .given .1) (c .before .before .before .security-total .ensures d x ∙ u)
 
 returns-2 : tie.Need-returns-2
-returns-2 c =
-    let s = c .before .before .before in
-    units-there (c .enum-told .given .1) (c .before .before .security-total .ensures ∙ s .pre)
+returns-2 c = λ d x u. units-there (c .enum-told .given .1) (c .before .before .security-total .ensures d x ∙ u)
 
 pub units-of-spec : {M : Type 1} → statement M
 units-of-spec =

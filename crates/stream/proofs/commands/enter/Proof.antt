@@ -18,15 +18,14 @@ decode-csd-requires c κs = search needs
 enter-csd-requires : tie.Need-enter-csd-requires
 enter-csd-requires c κs = search needs
 
-after-entry-requires : tie.Need-after-entry-requires
-after-entry-requires c κs = search needs
+same-length : tie.Need-same-length
+same-length c = search needs
 
 returns : tie.Need-returns
-returns c = λ whole.
-    let s = c .before .before .before .before .before .before in
-    let o = now (s .args .operands) in
-    entry-obeys _ _ (s .args .directory) _ _ (csd-call (s .args .tag) o (c .before .before .before .before .if1 .taken) whole ∙ ap (λ (x : Csd). enter (csdRow x)) (sym (c .before .before .before .decode-csd .ensures)))
-    (c .before .enter-csd .ensures) (c .after-entry .ensures)
+returns c = λ d x whole.
+    let a = c .before .before .before .before .before .before .before .before .args in
+    entry-obeys _ _ d _ _ (csd-call (a .tag) (now (a .operands)) (c .before .before .before .before .before .if1 .taken) whole ∙ ap (λ (y : Csd). enter (csdRow y)) (sym (c .before .before .before .decode-csd .ensures)))
+    (c .before .before .enter-csd .ensures d x .0) (c .before .before .enter-csd .ensures d x .1)
 
 decode-security-requires : tie.Need-decode-security-requires
 decode-security-requires c κs = search needs
@@ -34,15 +33,14 @@ decode-security-requires c κs = search needs
 enter-security-requires : tie.Need-enter-security-requires
 enter-security-requires c κs = search needs
 
-after-entry-requires-2 : tie.Need-after-entry-requires-2
-after-entry-requires-2 c κs = search needs
+same-length-2 : tie.Need-same-length-2
+same-length-2 c = search needs
 
 returns-2 : tie.Need-returns-2
-returns-2 c = λ whole.
-    let s = c .before .before .before .before .before .before .before in
-    let o = now (s .args .operands) in
-    entry-obeys _ _ (s .args .directory) _ _ (security-call (s .args .tag) o (c .before .before .before .before .if2 .taken) whole ∙ ap (λ (x : Security). enter (securityRow x)) (sym (c .before .before .before .decode-security .ensures)))
-    (c .before .enter-security .ensures) (c .after-entry2 .ensures)
+returns-2 c = λ d x whole.
+    let a = c .before .before .before .before .before .before .before .before .before .args in
+    entry-obeys _ _ d _ _ (security-call (a .tag) (now (a .operands)) (c .before .before .before .before .before .if2 .taken) whole ∙ ap (λ (y : Security). enter (securityRow y)) (sym (c .before .before .before .decode-security .ensures)))
+    (c .before .before .enter-security .ensures d x .0) (c .before .before .enter-security .ensures d x .1)
 
 decode-account-requires : tie.Need-decode-account-requires
 decode-account-requires c κs = search needs
@@ -50,15 +48,14 @@ decode-account-requires c κs = search needs
 enter-account-requires : tie.Need-enter-account-requires
 enter-account-requires c κs = search needs
 
-after-entry-requires-3 : tie.Need-after-entry-requires-3
-after-entry-requires-3 c κs = search needs
+same-length-3 : tie.Need-same-length-3
+same-length-3 c = search needs
 
 returns-3 : tie.Need-returns-3
-returns-3 c = λ whole.
-    let s = c .before .before .before .before .before .before .before in
-    let o = now (s .args .operands) in
-    entry-obeys _ _ (s .args .directory) _ _ (account-call (s .args .tag) o (c .before .before .before .if3 .taken) ∙ ap enter (sym (c .before .before .decode-account .ensures)))
-    (c .before .enter-account .ensures) (c .after-entry3 .ensures)
+returns-3 c = λ d x whole.
+    let a = c .before .before .before .before .before .before .before .before .before .before .args in
+    entry-obeys _ _ d _ _ (account-call (a .tag) (now (a .operands)) (c .before .before .before .before .before .if3 .taken) ∙ ap enter (sym (c .before .before .before .decode-account .ensures)))
+    (c .before .before .enter-account .ensures d x .0) (c .before .before .enter-account .ensures d x .1)
 
 decode-pair-requires : tie.Need-decode-pair-requires
 decode-pair-requires c κs = search needs
@@ -66,15 +63,14 @@ decode-pair-requires c κs = search needs
 enter-pair-requires : tie.Need-enter-pair-requires
 enter-pair-requires c κs = search needs
 
-after-entry-requires-4 : tie.Need-after-entry-requires-4
-after-entry-requires-4 c κs = search needs
+same-length-4 : tie.Need-same-length-4
+same-length-4 c = search needs
 
 returns-4 : tie.Need-returns-4
-returns-4 c = λ whole.
-    let s = c .before .before .before .before .before .before .before .before in
-    let o = now (s .args .operands) in
-    entry-obeys _ _ (s .args .directory) _ _ (pair-call (s .args .tag) o (c .before .before .before .if4 .taken) ∙ ap enter (sym (c .before .before .decode-pair .ensures)))
-    (c .before .enter-pair .ensures) (c .after-entry4 .ensures)
+returns-4 c = λ d x whole.
+    let a = c .before .before .before .before .before .before .before .before .before .before .before .args in
+    entry-obeys _ _ d _ _ (pair-call (a .tag) (now (a .operands)) (c .before .before .before .before .before .if4 .taken) ∙ ap enter (sym (c .before .before .before .decode-pair .ensures)))
+    (c .before .before .enter-pair .ensures d x .0) (c .before .before .enter-pair .ensures d x .1)
 
 decode-link-requires : tie.Need-decode-link-requires
 decode-link-requires c κs = search needs
@@ -82,17 +78,17 @@ decode-link-requires c κs = search needs
 enter-link-requires : tie.Need-enter-link-requires
 enter-link-requires c κs = search needs
 
-after-entry-requires-5 : tie.Need-after-entry-requires-5
-after-entry-requires-5 c κs = search needs
+same-length-5 : tie.Need-same-length-5
+same-length-5 c = search needs
 
 returns-5 : tie.Need-returns-5
-returns-5 c = λ whole.
-    let s = c .before .before .before .before .before .before .before .before in
-    let o = now (s .args .operands) in
-    let known = known-tag (s .args .tag) _ whole in
-    let last : s .args .tag ≡ 5 = omega (arith, s .pre) in
-    entry-obeys _ _ (s .args .directory) _ _ (link-call (s .args .tag) o last ∙ ap enter (sym (c .before .before .decode-link .ensures)))
-    (c .before .enter-link .ensures) (c .after-entry5 .ensures)
+returns-5 c = λ d x whole.
+    let s = c .before .before .before .before .before .before .before .before .before .before .before in
+    let a = s .args in
+    let known = known-tag (a .tag) _ whole in
+    let last : a .tag ≡ 5 = omega (arith, s .pre) in
+    entry-obeys _ _ d _ _ (link-call (a .tag) (now (a .operands)) last ∙ ap enter (sym (c .before .before .before .decode-link .ensures)))
+    (c .before .before .enter-link .ensures d x .0) (c .before .before .enter-link .ensures d x .1)
 
 pub enter-spec : {M : Type 1} → statement M
 enter-spec =
@@ -100,21 +96,21 @@ enter-spec =
     (tie.spec
     decode-csd-requires
     enter-csd-requires
-    after-entry-requires
+    same-length
     returns
     decode-security-requires
     enter-security-requires
-    after-entry-requires-2
+    same-length-2
     returns-2
     decode-account-requires
     enter-account-requires
-    after-entry-requires-3
+    same-length-3
     returns-3
     decode-pair-requires
     enter-pair-requires
-    after-entry-requires-4
+    same-length-4
     returns-4
     decode-link-requires
     enter-link-requires
-    after-entry-requires-5
+    same-length-5
     returns-5)

@@ -1,7 +1,8 @@
 -- `stream::turns::take_turn` meets its contract: by what stands at the place, nothing, a stop, or a command obeyed and told. Assumes nothing.
-use mathlib.Core.Path.{sym, _∙_}
+use mathlib.Core.Path.{refl, sym, _∙_}
 use native.Mathlib.Omega.{arith}
 use Rattle.wire.proofs.Found.{stands, operands-long}
+use Rattle.stream.specs.Obeyed.{store}
 use Rattle.stream.proofs.Telling.{takes-nothing, takes-unknown, takes-cut, takes-command}
 use borrow.Author.Needs.{needs}
 use Rattle.stream.proofs.turns.take_turn.Statement.{statement}
@@ -36,62 +37,60 @@ enum-known-tag c = search needs
 
 sub-obey : tie.Need-sub-obey
 sub-obey c =
-    let k = c .before .before .before in
-    let a = k .before .before .before .before .before .args in
-    let x = k .tag .given .0 in
-    let h = stands (a .input .now) (a .at) (x .0) (x .1 .0) (x .1 .1 .0) (sym (k .before .before .next-in .ensures) ∙ k .tag .given .1) in
+    let a = c .before .before .before .before .before .before .before .before .before .before .before .before .args in
+    let x = c .before .before .before .before .before .tag .given .0 in
+    let h = stands (a .input .now) (a .at) (x .0) (x .1 .0) (x .1 .1 .0) (sym (c .before .before .before .before .before .before .before .next-in .ensures) ∙ c .before .before .before .before .before .tag .given .1) in
     omega (arith, h .starts, h .forward)
 
 part-obey-start : tie.Need-part-obey-start
 part-obey-start c =
-    let k = c .before .before .before in
-    let a = k .before .before .before .before .before .args in
-    let x = k .tag .given .0 in
-    let h = stands (a .input .now) (a .at) (x .0) (x .1 .0) (x .1 .1 .0) (sym (k .before .before .next-in .ensures) ∙ k .tag .given .1) in
+    let a = c .before .before .before .before .before .before .before .before .before .before .before .before .args in
+    let x = c .before .before .before .before .before .tag .given .0 in
+    let h = stands (a .input .now) (a .at) (x .0) (x .1 .0) (x .1 .1 .0) (sym (c .before .before .before .before .before .before .before .next-in .ensures) ∙ c .before .before .before .before .before .tag .given .1) in
     search needs
 
 part-obey-end : tie.Need-part-obey-end
 part-obey-end c =
-    let k = c .before .before .before in
-    let a = k .before .before .before .before .before .args in
-    let x = k .tag .given .0 in
-    let h = stands (a .input .now) (a .at) (x .0) (x .1 .0) (x .1 .1 .0) (sym (k .before .before .next-in .ensures) ∙ k .tag .given .1) in
+    let a = c .before .before .before .before .before .before .before .before .before .before .before .before .args in
+    let x = c .before .before .before .before .before .tag .given .0 in
+    let h = stands (a .input .now) (a .at) (x .0) (x .1 .0) (x .1 .1 .0) (sym (c .before .before .before .before .before .before .before .next-in .ensures) ∙ c .before .before .before .before .before .tag .given .1) in
     search needs
 
 obey-requires : tie.Need-obey-requires
 obey-requires c κs = search needs
 
-put-said-requires : tie.Need-put-said-requires
-put-said-requires c κs = search needs
+put-line-requires : tie.Need-put-line-requires
+put-line-requires c κs = search needs
+
+count-of-requires : tie.Need-count-of-requires
+count-of-requires c κs = search needs
+
+put-steps-requires : tie.Need-put-steps-requires
+put-steps-requires c κs = search needs
 
 same-length : tie.Need-same-length
 same-length c = search needs
 
 returns : tie.Need-returns
 returns c =
-    let k = c .before .before .before .before .before in
-    let a = k .before .before .before .before .before .args in
-    takes-nothing (a .input .now) (a .number) (a .at) (a .directory) (a .positions .now) (a .cash .now) (a .out .now) (a .end) _ _ (sym (k .before .before .next-in .ensures) ∙ k .enum-told .given .1) (c .before .before .put-word .ensures)
+    let a = c .before .before .before .before .before .before .before .before .before .before .before .before .args in
+    (λ d x long. takes-nothing (a .input .now) (a .number) (a .at) d (a .index .now) (a .positions .now) (a .cash .now) x (a .out .now) (a .end) _ _ (sym (c .before .before .before .before .before .before .before .next-in .ensures) ∙ c .before .before .before .before .before .enum-told .given .1) (c .before .before .put-word .ensures), refl)
 
 same-length-2 : tie.Need-same-length-2
 same-length-2 c = search needs
 
 returns-2 : tie.Need-returns-2
 returns-2 c =
-    let k = c .before .before .before .before in
-    let a = k .before .before .before .before .before .args in
-    let e = c .before .before .stop .ensures in
-    takes-unknown (a .input .now) (a .number) (a .at) (a .directory) (a .positions .now) (a .cash .now) (a .out .now) (a .end) _ _ (sym (k .before .before .next-in .ensures) ∙ k .enum-told2 .given .1) (e .0) (e .1) (e .2)
+    let a = c .before .before .before .before .before .before .before .before .before .before .before .args in
+    (λ d x long. takes-unknown (a .input .now) (a .number) (a .at) d (a .index .now) (a .positions .now) (a .cash .now) x (a .out .now) (a .end) _ _ (sym (c .before .before .before .before .before .before .next-in .ensures) ∙ c .before .before .before .before .enum-told2 .given .1) (c .before .before .stop .ensures), refl)
 
 same-length-3 : tie.Need-same-length-3
 same-length-3 c = search needs
 
 returns-3 : tie.Need-returns-3
 returns-3 c =
-    let k = c .before .before .before .before in
-    let a = k .before .before .before .before .before .args in
-    let e = c .before .before .stop2 .ensures in
-    takes-cut (a .input .now) (a .number) (a .at) (a .directory) (a .positions .now) (a .cash .now) (a .out .now) (a .end) _ _ (sym (k .before .before .next-in .ensures) ∙ k .enum-told3 .given .1) (e .0) (e .1) (e .2)
+    let a = c .before .before .before .before .before .before .before .before .before .before .before .args in
+    (λ d x long. takes-cut (a .input .now) (a .number) (a .at) d (a .index .now) (a .positions .now) (a .cash .now) x (a .out .now) (a .end) _ _ (sym (c .before .before .before .before .before .before .next-in .ensures) ∙ c .before .before .before .before .enum-told3 .given .1) (c .before .before .stop2 .ensures), refl)
 
 same-length-4 : tie.Need-same-length-4
 same-length-4 c = search needs
@@ -102,16 +101,24 @@ same-length-5 c = search needs
 same-length-6 : tie.Need-same-length-6
 same-length-6 c = search needs
 
+same-length-7 : tie.Need-same-length-7
+same-length-7 c = search needs
+
+same-length-8 : tie.Need-same-length-8
+same-length-8 c = search needs
+
 returns-4 : tie.Need-returns-4
 returns-4 c =
-    let said = c .before .before in
-    let done = said .before .before .before .before .before .before in
-    let k = done .before .before .before .before .before in
-    let a = k .before .before .before .before .before .args in
-    let x = k .tag .given .0 in
-    let next = sym (k .before .before .next-in .ensures) ∙ k .tag .given .1 in
-    takes-command (a .input .now) (a .number) (a .at) (a .directory) (a .positions .now) (a .cash .now) (a .out .now) (a .end) (x .0) (x .1 .0) (x .1 .1 .0) (done .obey .result) _ _ _ _ next
-    (done .obey .ensures (operands-long (stands (a .input .now) (a .at) (x .0) (x .1 .0) (x .1 .1 .0) next))) (said .put-said .ensures)
+    let a = c .before .before .before .before .before .before .before .before .before .before .before .before .before .before .before .before .before .before .before .before .before .before .before .before .before .before .before .before .before .before .args in
+    let x = c .before .before .before .before .before .before .before .before .before .before .before .before .before .before .before .before .before .before .before .before .before .before .before .tag .given .0 in
+    let o = c .before .before .before .before .before .before .before .before .before .before .before .before .before .before .before .before .obey in
+    let next = sym (c .before .before .before .before .before .before .before .before .before .before .before .before .before .before .before .before .before .before .before .before .before .before .before .before .before .next-in .ensures) ∙ c .before .before .before .before .before .before .before .before .before .before .before .before .before .before .before .before .before .before .before .before .before .before .before .tag .given .1 in
+    let whole = operands-long (stands (a .input .now) (a .at) (x .0) (x .1 .0) (x .1 .1 .0) next) in (
+      λ d i long.
+          takes-command (a .input .now) (a .number) (a .at) (store d (a .positions .now) (a .cash .now)) (a .out .now) (a .end) (x .0) (x .1 .0) (x .1 .1 .0) (o .result) _ _ _ _ _ _ _ _ _ next
+          (o .ensures .0 d i long whole) (c .before .before .before .before .before .before .before .before .put-line .ensures) (c .before .before .before .before .count-of .ensures) (c .before .before .put-steps .ensures (o .ensures .1 ∙ long)),
+      o .ensures .1,
+    )
 
 pub take-turn-spec : {M : Type 1} → statement M
 take-turn-spec =
@@ -130,7 +137,9 @@ take-turn-spec =
     part-obey-start
     part-obey-end
     obey-requires
-    put-said-requires
+    put-line-requires
+    count-of-requires
+    put-steps-requires
     same-length
     returns
     same-length-2
@@ -140,4 +149,6 @@ take-turn-spec =
     same-length-4
     same-length-5
     same-length-6
+    same-length-7
+    same-length-8
     returns-4)
