@@ -1,0 +1,5 @@
+pub mod Rows
+pub mod Bytes
+pub mod Tags
+pub mod Moves
+pub mod Exported

@@ -1,6 +1,8 @@
 // The calls, told by the byte of the command in the stream. An answer is a number: 256 for each kind before it, and what it carries, at
-// most 255.
+// most 255. Where the buffers do not fit it is 1280, and nothing is changed.
+use crate::layout::COUNTS;
 use crate::layout::ROWS;
+use crate::layout::STEP_BYTES;
 use crate::layout::read_directory;
 use crate::layout::write_counts;
 use crate::layout::write_rows;
@@ -13,11 +15,18 @@ use rules::Reply;
 use rules::SecurityTotal;
 use wire::operands;
 ghost use mathlib.Core.Path.{_≡_};
-ghost use Prim.Native.Nat.{_+_, _≤_, _<_};
+ghost use Prim.Native.Nat.{_+_, _<_};
+ghost use mathlib.Core.Bool.{not, cond};
+ghost use lib.Dec.{eqb};
 ghost use lib.ListN.{length};
+ghost use Rattle.rules.specs.Calls.{desk, deskSecurityTotal, deskCashTotal};
 ghost use Rattle.rules.specs.Stream.{transcript};
 ghost use Rattle.probe.specs.Codes.{capped, codeOf};
 ghost use Rattle.stream.specs.Printed.{Printed};
+ghost use Rattle.desk.specs.Outcomes.{holding, enteredOn, replyOf};
+ghost use Rattle.probe.specs.Layout.{stepsLength, directoryIn, countsOf, bytesOf, bytesOfSteps, filled};
+ghost use Rattle.probe.specs.Exports.{misfit, fits, fitsSteps, fitsSum, rowOf, moveOf, enters, moves, settles, derives};
+ghost use Rattle.probe.specs.Exports.{unitsCode, unitsLeft, centsCode, centsLeft};
 
 // The buffers do not fit.
 const MISFIT: u64 = 1280;
@@ -40,7 +49,9 @@ fn code_of(answer: Answer) -> u64
     }
 }
 
-fn entry(directory: Directory, tag: u8, bytes: &[u8]) -> Entered {
+fn entry(directory: Directory, tag: u8, bytes: &[u8]) -> Entered
+    ensures { λ r. ⌜ r ≡ enteredOn directory (rowOf tag (now (bytes .entry))) ⌝ }
+{
     if tag == 1 {
         return desk::enter_csd(directory, operands::decode_csd(bytes));
     }
@@ -58,13 +69,12 @@ fn entry(directory: Directory, tag: u8, bytes: &[u8]) -> Entered {
 
 // 01 to 05, where any other byte counts as 05: the counts and rows become those of the directory after it.
 #[no_mangle]
-pub extern "C" fn fluzzam_enter(
-    counts: &mut [usize],
-    rows: &mut [u8],
-    tag: u8,
-    bytes: &[u8],
-) -> u64 {
-    if counts.len() != 5 {
+pub extern "C" fn fluzzam_enter(counts: &mut [usize], rows: &mut [u8], tag: u8, bytes: &[u8]) -> u64
+    ensures { λ r. ⌜ (r ≡ cond (fits (now (counts .entry)) (now (rows .entry))) (codeOf (enters (now (counts .entry)) (now (rows .entry)) tag (now (bytes .entry)) .answer)) misfit)
+        × (now (counts .exit) ≡ cond (fits (now (counts .entry)) (now (rows .entry))) (countsOf (enters (now (counts .entry)) (now (rows .entry)) tag (now (bytes .entry)) .directory)) (now (counts .entry)))
+        × (now (rows .exit) ≡ cond (fits (now (counts .entry)) (now (rows .entry))) (bytesOf (enters (now (counts .entry)) (now (rows .entry)) tag (now (bytes .entry)) .directory)) (now (rows .entry))) ⌝ }
+{
+    if counts.len() != COUNTS {
         return MISFIT;
     }
     if rows.len() != ROWS {
@@ -84,7 +94,11 @@ fn movement(
     cash: &mut [i64],
     tag: u8,
     bytes: &[u8],
-) -> Answer {
+) -> Answer
+    ensures { λ r. ⌜ (r ≡ desk (moveOf tag (now (bytes .entry))) (holding directory (now (positions .entry)) (now (cash .entry))) .answer)
+        × (now (positions .exit) ≡ desk (moveOf tag (now (bytes .entry))) (holding directory (now (positions .entry)) (now (cash .entry))) .store .positions)
+        × (now (cash .exit) ≡ desk (moveOf tag (now (bytes .entry))) (holding directory (now (positions .entry)) (now (cash .entry))) .store .cash) ⌝ }
+{
     if tag == 6 {
         let x = operands::decode_move(bytes);
         return desk::bring_in(directory, positions, x.account, x.security, x.quantity);
@@ -109,8 +123,12 @@ pub extern "C" fn fluzzam_move(
     cash: &mut [i64],
     tag: u8,
     bytes: &[u8],
-) -> u64 {
-    if counts.len() != 5 {
+) -> u64
+    ensures { λ r. ⌜ (r ≡ cond (fits (now (counts .entry)) (now (rows .entry))) (codeOf (moves (now (counts .entry)) (now (rows .entry)) (now (positions .entry)) (now (cash .entry)) tag (now (bytes .entry)) .answer)) misfit)
+        × (now (positions .exit) ≡ cond (fits (now (counts .entry)) (now (rows .entry))) (moves (now (counts .entry)) (now (rows .entry)) (now (positions .entry)) (now (cash .entry)) tag (now (bytes .entry)) .store .positions) (now (positions .entry)))
+        × (now (cash .exit) ≡ cond (fits (now (counts .entry)) (now (rows .entry))) (moves (now (counts .entry)) (now (rows .entry)) (now (positions .entry)) (now (cash .entry)) tag (now (bytes .entry)) .store .cash) (now (cash .entry))) ⌝ }
+{
+    if counts.len() != COUNTS {
         return MISFIT;
     }
     if rows.len() != ROWS {
@@ -121,8 +139,7 @@ pub extern "C" fn fluzzam_move(
 }
 
 fn replied(steps: &mut [u8], reply: Reply) -> u64
-    requires { ⌜ length (now steps) ≡ 80 ⌝ }
-    ensures { λ r. ⌜ r ≡ codeOf (reply .answer) ⌝ }
+    ensures { λ r. ⌜ (r ≡ codeOf (reply .answer)) × (now (steps .exit) ≡ filled stepsLength (bytesOfSteps (reply .steps)) (now (steps .entry))) ⌝ }
 {
     write_steps(steps, reply.steps);
     let answer = reply.answer;
@@ -139,14 +156,19 @@ pub extern "C" fn fluzzam_settle(
     lent: usize,
     bytes: &[u8],
     steps: &mut [u8],
-) -> u64 {
-    if counts.len() != 5 {
+) -> u64
+    ensures { λ r. ⌜ (r ≡ cond (fitsSteps (now (counts .entry)) (now (rows .entry)) (now (steps .entry))) (codeOf (settles (now (counts .entry)) (now (rows .entry)) (now (positions .entry)) (now (cash .entry)) lent (now (bytes .entry)) .answer)) misfit)
+        × (now (positions .exit) ≡ cond (fitsSteps (now (counts .entry)) (now (rows .entry)) (now (steps .entry))) (settles (now (counts .entry)) (now (rows .entry)) (now (positions .entry)) (now (cash .entry)) lent (now (bytes .entry)) .store .positions) (now (positions .entry)))
+        × (now (cash .exit) ≡ cond (fitsSteps (now (counts .entry)) (now (rows .entry)) (now (steps .entry))) (settles (now (counts .entry)) (now (rows .entry)) (now (positions .entry)) (now (cash .entry)) lent (now (bytes .entry)) .store .cash) (now (cash .entry)))
+        × (now (steps .exit) ≡ cond (fitsSteps (now (counts .entry)) (now (rows .entry)) (now (steps .entry))) (bytesOfSteps (replyOf (settles (now (counts .entry)) (now (rows .entry)) (now (positions .entry)) (now (cash .entry)) lent (now (bytes .entry))) .steps)) (now (steps .entry))) ⌝ }
+{
+    if counts.len() != COUNTS {
         return MISFIT;
     }
     if rows.len() != ROWS {
         return MISFIT;
     }
-    if steps.len() != 80 {
+    if steps.len() != STEP_BYTES {
         return MISFIT;
     }
     let directory = read_directory(counts, rows);
@@ -164,14 +186,17 @@ pub extern "C" fn fluzzam_derive(
     lent: usize,
     bytes: &[u8],
     steps: &mut [u8],
-) -> u64 {
-    if counts.len() != 5 {
+) -> u64
+    ensures { λ r. ⌜ (r ≡ cond (fitsSteps (now (counts .entry)) (now (rows .entry)) (now (steps .entry))) (codeOf (derives (now (counts .entry)) (now (rows .entry)) lent (now (bytes .entry)) .answer)) misfit)
+        × (now (steps .exit) ≡ cond (fitsSteps (now (counts .entry)) (now (rows .entry)) (now (steps .entry))) (bytesOfSteps (replyOf (derives (now (counts .entry)) (now (rows .entry)) lent (now (bytes .entry))) .steps)) (now (steps .entry))) ⌝ }
+{
+    if counts.len() != COUNTS {
         return MISFIT;
     }
     if rows.len() != ROWS {
         return MISFIT;
     }
-    if steps.len() != 80 {
+    if steps.len() != STEP_BYTES {
         return MISFIT;
     }
     let directory = read_directory(counts, rows);
@@ -189,8 +214,11 @@ pub extern "C" fn fluzzam_security_total(
     positions: &[i64],
     security: u8,
     sum: &mut [i64],
-) -> u64 {
-    if counts.len() != 5 {
+) -> u64
+    ensures { λ r. ⌜ (r ≡ cond (fitsSum (now (counts .entry)) (now (rows .entry)) (now (sum .entry))) (unitsCode (deskSecurityTotal (directoryIn (now (counts .entry)) (now (rows .entry))) (now (positions .entry)) security)) misfit)
+        × (now (sum .exit) ≡ cond (fitsSum (now (counts .entry)) (now (rows .entry)) (now (sum .entry))) (unitsLeft (deskSecurityTotal (directoryIn (now (counts .entry)) (now (rows .entry))) (now (positions .entry)) security) (now (sum .entry))) (now (sum .entry))) ⌝ }
+{
+    if counts.len() != COUNTS {
         return MISFIT;
     }
     if rows.len() != ROWS {
@@ -212,7 +240,10 @@ pub extern "C" fn fluzzam_security_total(
 
 // The total of cash, likewise.
 #[no_mangle]
-pub extern "C" fn fluzzam_cash_total(cash: &[i64], sum: &mut [i64]) -> u64 {
+pub extern "C" fn fluzzam_cash_total(cash: &[i64], sum: &mut [i64]) -> u64
+    ensures { λ r. ⌜ (r ≡ cond (not (eqb (length (now (sum .entry))) 0)) (centsCode (deskCashTotal (now (cash .entry)))) misfit)
+        × (now (sum .exit) ≡ cond (not (eqb (length (now (sum .entry))) 0)) (centsLeft (deskCashTotal (now (cash .entry))) (now (sum .entry))) (now (sum .entry))) ⌝ }
+{
     if sum.len() == 0 {
         return MISFIT;
     }

@@ -1,57 +1,73 @@
--- The loop ends after 16 rows; each row's bytes are there.
+-- So far the first rows are read; each is decoded where it starts.
 use borrow.Author.Needs.{needs}
-use Prim.Native.Nat.{_≤_, _-_}
+use mathlib.Core.Path.{_≡_, refl, ap, _∙_}
+use Prim.Native.Nat.{_+_, _*_, _≤_, _-_}
 use native.Mathlib.Omega.{arith}
+use lib.ListN.{length, take, length-set}
+use Rattle.wire.specs.Operands.{securityIn}
+use Rattle.probe.specs.Layout.{rowsIn, securitiesIn}
+use Rattle.probe.proofs.Rows.{from, row-more, rows-done}
 use Rattle.probe.proofs.layout.read_securities.Statement.{statement}
 use Rattle.probe.proofs.layout.read_securities.Tie as tie
 
 abbrev Inv-loop : tie.InvT-loop
-Inv-loop count bytes rows₀ i₀ rows i = i ≤ 16
+Inv-loop count bytes rows₀ i₀ rows i = (i ≤ 16) × (length rows ≡ 16) × (take i rows ≡ rowsIn securityIn 384 12 bytes i)
 
 abbrev μ-loop : tie.MeasureT-loop
 μ-loop count bytes rows₀ i₀ rows i = 16 - i
 
 loop-holds : tie.Need-loop-holds Inv-loop μ-loop
-loop-holds c = search needs
+unfolding rowsIn
+loop-holds c = (omega arith, refl, refl)
 
-mul-at : tie.Need-mul-at Inv-loop μ-loop
-mul-at c = search needs
+mul-within : tie.Need-mul-within Inv-loop μ-loop
+mul-within c = omega arith
 
-add-at : tie.Need-add-at Inv-loop μ-loop
-add-at c = search needs
+add-within : tie.Need-add-within Inv-loop μ-loop
+add-within c = omega arith
 
-add-decode-security : tie.Need-add-decode-security Inv-loop μ-loop
-add-decode-security c = search needs
+within-requires : tie.Need-within-requires Inv-loop μ-loop
+within-requires c κs = search needs
 
 sub-decode-security : tie.Need-sub-decode-security Inv-loop μ-loop
-sub-decode-security c = search needs
+sub-decode-security c = omega arith
 
 part-decode-security-start : tie.Need-part-decode-security-start Inv-loop μ-loop
-part-decode-security-start c = search needs
+part-decode-security-start c = omega arith
 
 part-decode-security-end : tie.Need-part-decode-security-end Inv-loop μ-loop
-part-decode-security-end c = search needs
+part-decode-security-end c = omega arith
 
 decode-security-requires : tie.Need-decode-security-requires Inv-loop μ-loop
 decode-security-requires c κs = search needs
 
 mul-rows : tie.Need-mul-rows Inv-loop μ-loop
-mul-rows c = search needs
+mul-rows c = omega arith
 
 array-set-from-rows : tie.Need-array-set-from-rows Inv-loop μ-loop
-array-set-from-rows c = search needs
+array-set-from-rows c = omega arith
 
 add-i : tie.Need-add-i Inv-loop μ-loop
-add-i c = search needs
+add-i c = omega arith
 
 loop-less : tie.Need-loop-less Inv-loop μ-loop
-loop-less c = search needs
+loop-less c = omega arith
 
 loop-again : tie.Need-loop-again Inv-loop μ-loop
-loop-again c = search needs
+loop-again c =
+    let l = c .before .before .before .before .loop in
+    let bytes = c .before .before .before .before .before .before .args .bytes .now in
+    let w = c .before .before .within in
+    let part = from bytes (384 + l .i * 12) (w .result) (w .ensures) in
+    (omega arith, simp length-set (l .inv .1), row-more securityIn 384 12 bytes (l .rows) (l .i) (c .decode-security .result) (omega arith) (l .inv .2) (c .decode-security .ensures ∙ ap securityIn part))
 
 returns : tie.Need-returns Inv-loop μ-loop
-returns c = search needs
+unfolding securitiesIn
+returns c =
+    let l = c .before .loop in
+    let a = c .before .before .before .args in
+    let e : l .rows ≡ rowsIn securityIn 384 12 (a .bytes .now) 16 = rows-done securityIn 384 12 (a .bytes .now) (l .rows) (l .i) 16 (l .inv .2) (l .inv .1) (omega arith) in
+    rw e
 
 pub read-securities-spec : {M : Type 1} → statement M
 read-securities-spec =
@@ -60,9 +76,9 @@ read-securities-spec =
     Inv-loop
     μ-loop
     loop-holds
-    mul-at
-    add-at
-    add-decode-security
+    mul-within
+    add-within
+    within-requires
     sub-decode-security
     part-decode-security-start
     part-decode-security-end

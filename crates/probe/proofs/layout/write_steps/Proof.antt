@@ -1,61 +1,25 @@
--- The loop writes within the list, whose length stays.
-use borrow.Author.Needs.{needs}
-use Prim.Native.Nat.{_≤_, _-_}
+-- A buffer that fits is written, any other stays.
+use mathlib.Core.Path.{_∙_}
 use native.Mathlib.Omega.{arith}
-use mathlib.Core.Path.{_≡_}
-use lib.ListN.{length, length-set}
+use Rattle.probe.specs.Layout.{bytesOfSteps, stepsLength}
+use Rattle.probe.proofs.Bytes.{fills, keeps}
+use borrow.Author.Needs.{needs}
 use Rattle.probe.proofs.layout.write_steps.Statement.{statement}
 use Rattle.probe.proofs.layout.write_steps.Tie as tie
 
-abbrev Inv-loop : tie.InvT-loop
-Inv-loop bytes₀ steps j₀ bytes j = (j ≤ 80) × (length bytes ≡ 80)
+put-steps-requires : tie.Need-put-steps-requires
+put-steps-requires c κs = search needs
 
-abbrev μ-loop : tie.MeasureT-loop
-μ-loop bytes₀ steps j₀ bytes j = 80 - j
-
-loop-holds : tie.Need-loop-holds Inv-loop μ-loop
-loop-holds c = (omega arith, search needs)
-
-mul-step-byte : tie.Need-mul-step-byte Inv-loop μ-loop
-mul-step-byte c = search needs
-
-element-copy-out-step-byte : tie.Need-element-copy-out-step-byte Inv-loop μ-loop
-element-copy-out-step-byte c = search needs
-
-step-byte-requires : tie.Need-step-byte-requires Inv-loop μ-loop
-step-byte-requires c κs = search needs
-
-slice-write-bytes : tie.Need-slice-write-bytes Inv-loop μ-loop
-slice-write-bytes c = search needs
-
-add-j : tie.Need-add-j Inv-loop μ-loop
-add-j c = search needs
-
-loop-less : tie.Need-loop-less Inv-loop μ-loop
-loop-less c = search needs
-
-loop-again : tie.Need-loop-again Inv-loop μ-loop
-loop-again c = (omega arith, simp length-set (c .before .before .before .loop .inv .1))
-
-same-length : tie.Need-same-length Inv-loop μ-loop
+same-length : tie.Need-same-length
 same-length c = search needs
 
-returns : tie.Need-returns Inv-loop μ-loop
-returns c = search needs
+returns : tie.Need-returns
+returns c =
+    let a = c .before .before .before .before .before .before .args in
+    c .before .before .put-steps .ensures ∙ fills stepsLength (bytesOfSteps (a .steps)) (a .bytes .now) (omega arith)
+
+returns-2 : tie.Need-returns-2
+returns-2 c = let a = c .before .before .args in keeps stepsLength (bytesOfSteps (a .steps)) (a .bytes .now) (λ e. omega arith)
 
 pub write-steps-spec : {M : Type 1} → statement M
-write-steps-spec =
-    tie.close
-    (tie.spec
-    Inv-loop
-    μ-loop
-    loop-holds
-    mul-step-byte
-    element-copy-out-step-byte
-    step-byte-requires
-    slice-write-bytes
-    add-j
-    loop-less
-    loop-again
-    same-length
-    returns)
+write-steps-spec = tie.close (tie.spec put-steps-requires same-length returns returns-2)

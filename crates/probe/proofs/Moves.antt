@@ -1,0 +1,55 @@
+-- A bring-in, take-out, pay-in or pay-out on the whole store is the one on what its function is handed; the rest of the store stays.
+use Prim.Native.Nat.{ℕ, zero, suc}
+use mathlib.Core.Path.{_≡_, refl, ap, _∙_}
+use mathlib.Core.List.{List, []}
+use lib.IntN.{ℤ}
+use Rattle.rules.specs.declared.Directory.{Directory}
+use Rattle.rules.specs.declared.Answer.{Answer}
+use Rattle.rules.specs.Tests.{lowest}
+use Rattle.rules.specs.Booking.{Way}
+use Rattle.rules.specs.Calls.{Store, Call, move, pay, outcome, misfit, deskConditions, desk}
+use Rattle.desk.specs.Outcomes.{holding, movementOn, paymentOn}
+
+-- what a call on the store answers and leaves
+abbrev pub Leaves : Call → Store → Answer → List ℤ → List ℤ → Type 0
+Leaves k st r p c = (r ≡ desk k st .answer) × (p ≡ desk k st .store .positions) × (c ≡ desk k st .store .cash)
+
+module _ (d : Directory) (p c : List ℤ) where
+  moved-by : (n : ℕ) (w : Way) (a s q : ℕ)
+      → (outcome n (move w a s q) (holding d p []) .answer ≡ outcome n (move w a s q) (holding d p c) .answer)
+      × (outcome n (move w a s q) (holding d p []) .store .positions ≡ outcome n (move w a s q) (holding d p c) .store .positions)
+      × (c ≡ outcome n (move w a s q) (holding d p c) .store .cash)
+  moved-by zero w a s q = (refl, refl, refl)
+  moved-by (suc n) w a s q = (refl, refl, refl)
+
+  paid-by : (n : ℕ) (w : Way) (a m : ℕ)
+      → (outcome n (pay w a m) (holding d [] c) .answer ≡ outcome n (pay w a m) (holding d p c) .answer)
+      × (p ≡ outcome n (pay w a m) (holding d p c) .store .positions)
+      × (outcome n (pay w a m) (holding d [] c) .store .cash ≡ outcome n (pay w a m) (holding d p c) .store .cash)
+  paid-by zero w a m = (refl, refl, refl)
+  paid-by (suc n) w a m = (refl, refl, refl)
+
+  moved-like : (w : Way) (a s q : ℕ) → Leaves (move w a s q) (holding d p c) (movementOn d p w a s q .answer) (movementOn d p w a s q .store .positions) c
+  unfolding desk misfit
+  moved-like w a s q = moved-by (lowest (deskConditions (move w a s q) (holding d p c))) w a s q
+
+  paid-like : (w : Way) (a m : ℕ) → Leaves (pay w a m) (holding d p c) (paymentOn d c w a m .answer) p (paymentOn d c w a m .store .cash)
+  unfolding desk misfit
+  paid-like w a m = paid-by (lowest (deskConditions (pay w a m) (holding d p c))) w a m
+
+  module _ (k : Call) (r : Answer) (l : List ℤ) where
+    pub moved : (w : Way) (a s q : ℕ) → move w a s q ≡ k → (r ≡ movementOn d p w a s q .answer) × (l ≡ movementOn d p w a s q .store .positions) → Leaves k (holding d p c) r l c
+    moved w a s q e f =
+        let m = moved-like w a s q in (
+          f .0 ∙ m .0 ∙ ap (λ (x : Call). desk x (holding d p c) .answer) e,
+          f .1 ∙ m .1 ∙ ap (λ (x : Call). desk x (holding d p c) .store .positions) e,
+          m .2 ∙ ap (λ (x : Call). desk x (holding d p c) .store .cash) e,
+        )
+
+    pub paid : (w : Way) (a m : ℕ) → pay w a m ≡ k → (r ≡ paymentOn d c w a m .answer) × (l ≡ paymentOn d c w a m .store .cash) → Leaves k (holding d p c) r p l
+    paid w a m e f =
+        let n = paid-like w a m in (
+          f .0 ∙ n .0 ∙ ap (λ (x : Call). desk x (holding d p c) .answer) e,
+          n .1 ∙ ap (λ (x : Call). desk x (holding d p c) .store .positions) e,
+          f .1 ∙ n .2 ∙ ap (λ (x : Call). desk x (holding d p c) .store .cash) e,
+        )
