@@ -39,7 +39,7 @@ fn report(name: &str, input: &[u8]) {
         [times[0], times[RUNS / 2]].map(|time| time.as_nanos() / commands)
     });
     let pair = |[best, median]: [u128; 2]| format!("{best}, {median}");
-    let ratio = |place: usize| format!("{:.1}", proved[place] as f64 / model[place] as f64);
+    let ratio = |place: usize| format!("{:.2}", proved[place] as f64 / model[place] as f64);
     let ratios = format!("{}, {}", ratio(0), ratio(1));
     println!("{name:34} {commands:8} {:>18} {:>18} {ratios:>14}", pair(model), pair(proved));
 }
