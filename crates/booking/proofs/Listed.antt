@@ -7,7 +7,7 @@ use Prim.Native.Nat.{ℕ, zero, suc, _+_, _*_, _≤_, _<_}
 use native.Mathlib.Omega.{arith}
 use native.Mathlib.Numerals.{add-one}
 use native.Mathlib.Nat.{eq-or-lt-of-le, le-of-suc-le-suc}
-use lib.ListN.{length, length-append}
+use lib.ListN.{length}
 use lib.IntN.{ℤ}
 use Rattle.rules.specs.declared.Account.{Account}
 use Rattle.rules.specs.declared.Step.{Step}
@@ -16,6 +16,7 @@ use Rattle.rules.specs.Chain.{stepLimit}
 use Rattle.rules.specs.Booking.{limit, moved, booked, stepShort, unitsShort, stepBeyond, unitsBeyond}
 use Rattle.rules.proofs.Basics.{or-none}
 use Rattle.index.specs.Steps.{stepAt, stepsIn}
+use Rattle.chain.proofs.Putting.{steps-counted}
 use Rattle.booking.specs.Room.{Room}
 use Rattle.booking.proofs.Booked.{Touch, Touches, touched, room, touches-moved}
 
@@ -23,15 +24,6 @@ use Rattle.booking.proofs.Booked.{Touch, Touches, touched, room, touche
 steps-more : (b : List ℕ) (i : ℕ) → stepsIn b (i + 1) ≡ stepsIn b i ++ (stepAt b i ∷ [])
 unfolding stepsIn
 steps-more b i = rw (add-one i)
-
-pub steps-none : (b : List ℕ) → stepsIn b 0 ≡ []
-unfolding stepsIn
-steps-none b = refl
-
-pub steps-length : (b : List ℕ) (n : ℕ) → length (stepsIn b n) ≡ n
-unfolding stepsIn
-steps-length b zero = refl
-steps-length b (suc n) = omega (arith, length-append (stepsIn b n) (stepAt b n ∷ []), steps-length b n)
 
 -- ---- judged
 or-nothing : (a : Bool) → (a || false) ≡ a
@@ -99,5 +91,5 @@ module _ (b : List ℕ) (i s q : ℕ) (p : List ℤ) where
   next-room n small few here e =
       let passed = rw (steps-more b i) at (beyond-part b p s q n (i + 1) (omega arith) e) in
       let touches = touched (stepsIn b i ++ (stepAt b i ∷ [])) s q p small passed in
-      room (2 + 2 * length (stepsIn b i)) s q (booked (stepsIn b i) s q p) small (stepAt b i) (omega (arith, steps-length b i))
+      room (2 + 2 * length (stepsIn b i)) s q (booked (stepsIn b i) s q p) small (stepAt b i) (omega (arith, steps-counted b i))
       (touch-last (stepsIn b i) (stepAt b i) 2 s q p small touches)

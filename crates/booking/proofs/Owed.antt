@@ -16,8 +16,8 @@ use Rattle.rules.specs.Booking.{booked, paid}
 use Rattle.rules.specs.Calls.{countOf, halvesConditions, halvesChain, bookConditions}
 use Rattle.index.specs.Index.{Indexed}
 use Rattle.index.specs.Steps.{stepNumbers, stepsIn}
+use Rattle.chain.proofs.Putting.{steps-none, steps-counted}
 use Rattle.booking.specs.Settling.{settled}
-use Rattle.booking.proofs.Listed.{steps-none, steps-length}
 use Rattle.booking.proofs.Settled.{Settles, by-halves, by-chain, by-booking, done}
 
 unchained-by : (n : ℕ) (xs : List Step) → (n ≡ 0 → ⊥) → chainBy n xs ≡ unchained n
@@ -71,5 +71,5 @@ module _ (ix b : List ℕ) (p c : List ℤ) (h g : Half) where
             → Owes (Booked count) b′ p′ c′
         owed-done none p′ c′ e f =
             owed (Booked count) b′ p′ c′
-            (λ d i l. rw (e, f) (rw (steps-length b′ count) at
+            (λ d i l. rw (e, f) (rw (← steps-counted b′ count) at
             (done d p c h g n (halves d i) ok (stepsIn b′ count) (sym (chain d i l) ∙ chained-by k (stepsIn b′ count) is) m (number d i (same ∙ l) few) none))) same

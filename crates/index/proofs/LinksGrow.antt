@@ -21,7 +21,8 @@ use Rattle.rules.proofs.Soundness.{sound-gives}
 use Rattle.rules.proofs.NewLinks.{NewLink, accepted-link}
 use Rattle.index.specs.Index.{Place, csdCount, securityCount, accountCount, pairCount, linkCount, typeAt, homeAt, kindAt, pairedAt, mirrorAt, omnibusAt, routeAt, issuanceAt, linkAt, bicAt, isinAt, Inside, placeOf, indexOf, indexSize, Indexed}
 use Rattle.index.proofs.Growing.{one-more-row, grown}
-use Rattle.index.proofs.OneMore.{any-kept, any-new, any-narrower, find-kept, find-new, here, elsewhere, csd-small}
+use Rattle.index.proofs.OneMore.{any-kept, any-new, any-narrower, find-kept, find-new, here, elsewhere}
+use Rattle.index.proofs.Reading.{csd-small}
 
 abbrev pub cellOf : Link → ℕ
 cellOf x = x .security * 32 + x .csd

@@ -5,13 +5,10 @@ use mathlib.Core.Bool.{Bool, true, false}
 use mathlib.Core.List.{List, [], _∷_, _++_}
 use mathlib.Core.Option.{some}
 use Prim.Native.Nat.{ℕ, _<_}
-use native.Mathlib.Omega.{arith}
 use lib.ListN.{length, getD, set}
 use lib.Seq.{getD-set-same, getD-set-other}
-use Rattle.rules.specs.Tests.{any, find, isRow}
-use Rattle.rules.specs.Directory.{Rows}
-use Rattle.rules.proofs.Basics.{or-right, or-none, ltb-is}
-use Rattle.rules.proofs.Facts.{Facts}
+use Rattle.rules.specs.Tests.{any, find}
+use Rattle.rules.proofs.Basics.{or-right, or-none}
 
 -- ---- one row more
 module _ {A : Type 0} (t : A → Bool) (x : A) where
@@ -41,8 +38,3 @@ here l k v h = getD-set-same l k v 0 h
 
 pub elsewhere : (l : List ℕ) (k v n : ℕ) → n ≢ k → getD (set l k v) n 0 ≡ getD l n 0
 elsewhere l k v n h = getD-set-other l k n v 0 h
-
--- ---- numbers of rows
-pub csd-small : (r : Rows) → Facts r → (c : ℕ) → isRow (r .csds) c ≡ true → c < 32
-unfolding isRow
-csd-small r F c e = omega (arith, F .fewCsds, ltb-is c (length (r .csds)) e)

@@ -20,7 +20,8 @@ use Rattle.rules.proofs.Soundness.{sound-gives}
 use Rattle.rules.proofs.NewPairs.{NewPair, accepted-pair}
 use Rattle.index.specs.Index.{Place, csdCount, securityCount, accountCount, pairCount, linkCount, typeAt, homeAt, kindAt, pairedAt, mirrorAt, omnibusAt, routeAt, issuanceAt, linkAt, bicAt, isinAt, Inside, placeOf, indexOf, indexSize, flagCode, mirrorCode, omnibusCode, Indexed}
 use Rattle.index.proofs.Growing.{one-more-row, grown}
-use Rattle.index.proofs.OneMore.{any-kept, any-new, find-kept, find-new, here, elsewhere, csd-small}
+use Rattle.index.proofs.OneMore.{any-kept, any-new, find-kept, find-new, here, elsewhere}
+use Rattle.index.proofs.Reading.{csd-small}
 
 -- ---- the account marked as paired
 abbrev pub paired : ℕ → List ℕ → List ℕ
