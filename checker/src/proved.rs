@@ -11,7 +11,7 @@ use crate::trial::implementation::{Answer, Call, Implementation, Program, Store}
 /// Bytes of a row of each table.
 const WIDTHS: [usize; 5] = [12, 12, 2, 6, 7];
 const ROWS: [usize; 5] = [CSDS, SECURITIES, ACCOUNTS, PAIRS, LINKS];
-const STEP_BYTES: usize = STEPS * 5;
+pub const STEP_BYTES: usize = STEPS * 5;
 /// Bytes that hold any transcript (crates/stream/src/lib.rt, ROOM).
 const ROOM: usize = 400_000;
 
@@ -274,33 +274,42 @@ impl Program for Proved {
     }
 }
 
+impl Proved {
+    /// The directory that calls are handed from now on, as it goes through the boundary.
+    pub fn hand(&mut self, directory: &Directory) {
+        self.directory.write(directory);
+    }
+
+    /// One call on the directory handed: its number, and what it leaves.
+    pub fn make(&mut self, store: &mut Store, call: &Call, sum: &mut [i64; 1], chain: &mut [u8; STEP_BYTES]) -> u64 {
+        let directory = &mut self.directory;
+        let Store { positions, cash, steps, .. } = store;
+        let command = match call {
+            Call::Total { security } => return boundary::security_total(directory, positions, *security, sum),
+            Call::CashTotal => return boundary::cash_total(cash, sum),
+            Call::Command(command) => command,
+        };
+        self.command.clear();
+        command.write(&mut self.command);
+        let (tag, operands) = (self.command[0], &self.command[1..]);
+        match command {
+            Command::Settle { .. } => boundary::settle(directory, positions, cash, steps.len(), operands, chain),
+            Command::Derive { .. } => boundary::derive(directory, steps.len(), operands, chain),
+            Command::BringIn { .. } | Command::TakeOut { .. } | Command::PayIn { .. } | Command::PayOut { .. } => {
+                boundary::move_(directory, positions, cash, tag, operands)
+            }
+            _ => boundary::enter(directory, tag, operands),
+        }
+    }
+}
+
 impl Implementation for Proved {
     fn call(&mut self, store: &mut Store, call: &Call) -> Answer {
         let mut sum = [0];
         let mut chain = [0; STEP_BYTES];
-        self.directory.write(&store.directory);
+        self.hand(&store.directory);
         self.before.clone_from(&self.directory);
-        let directory = &mut self.directory;
-        let Store { positions, cash, steps, .. } = store;
-        let code = match call {
-            Call::Total { security } => boundary::security_total(directory, positions, *security, &mut sum),
-            Call::CashTotal => boundary::cash_total(cash, &mut sum),
-            Call::Command(command) => {
-                self.command.clear();
-                command.write(&mut self.command);
-                let (tag, operands) = (self.command[0], &self.command[1..]);
-                match command {
-                    Command::Settle { .. } => {
-                        boundary::settle(directory, positions, cash, steps.len(), operands, &mut chain)
-                    }
-                    Command::Derive { .. } => boundary::derive(directory, steps.len(), operands, &mut chain),
-                    Command::BringIn { .. } | Command::TakeOut { .. } | Command::PayIn { .. } | Command::PayOut { .. } => {
-                        boundary::move_(directory, positions, cash, tag, operands)
-                    }
-                    _ => boundary::enter(directory, tag, operands),
-                }
-            }
-        };
+        let code = self.make(store, call, &mut sum, &mut chain);
         if self.directory != self.before {
             store.directory = self.directory.read();
         }

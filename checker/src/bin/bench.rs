@@ -1,15 +1,21 @@
 //! Time per command on full streams of settlements, through the model and through the proved library, turn
-//! by turn: best and median of many runs, by chain length and by how much else stands in the directory.
+//! by turn: best and median of many runs, by chain length and by how much else stands in the directory. Then
+//! the time of single calls of the desk's functions, which are handed the whole directory each time.
 
 use std::hint::black_box;
 use std::time::{Duration, Instant};
 
-use checker::command::Reader;
-use checker::proved::Proved;
-use checker::trial::busy;
-use checker::trial::implementation::{Model, Program};
+use checker::booking::{Cents, Units};
+use checker::command::{Command, Reader};
+use checker::directory::{Account, Directory, PARTICIPANT};
+use checker::proved::{Proved, STEP_BYTES};
+use checker::trial::busy::{self, Market};
+use checker::trial::implementation::{Call, Model, Program, Store};
+use checker::trial::scenario::halves;
 
 const RUNS: usize = 100;
+/// Calls of the desk's functions that are timed together.
+const CALLS: u32 = 100;
 
 fn main() {
     println!(
@@ -24,6 +30,47 @@ fn main() {
             report(&format!("chains of {steps}, {tables}"), &busy::settlements(steps, full));
         }
     }
+    println!();
+    println!("{:34} {:>18}", "a call of the desk's functions", "best, median (ns)");
+    for full in [false, true] {
+        desk(full);
+    }
+}
+
+/// Single calls on the market's directory, its bytes made once.
+fn desk(full: bool) {
+    let tables = if full { "full tables" } else { "small tables" };
+    let market = Market::new(full);
+    let directory = market.scenario.directory();
+    let (from, to) = market.trade(16);
+    let security = market.security;
+    let (delivering, receiving) = halves(directory, from, to, security, 1, 0);
+    let commands = [
+        ("enter an account", Command::EnterAccount(Account { csd: 0, kind: PARTICIPANT })),
+        ("pay in", Command::PayIn { account: from, amount: Cents(1) }),
+        ("derive 16 steps", Command::Derive { delivering, receiving }),
+        ("settle 16 steps", Command::Settle { delivering, receiving }),
+    ];
+    for (name, command) in commands {
+        call(&format!("{name}, {tables}"), directory, &Call::Command(command));
+    }
+}
+
+fn call(name: &str, directory: &Directory, call: &Call) {
+    let mut proved = Proved::default();
+    let mut store = Store { steps: vec![Default::default(); 16], ..Store::empty() };
+    store.positions.fill(Units(1_000_000_000));
+    let mut times = Vec::new();
+    for _ in 0..RUNS {
+        proved.hand(directory);
+        let start = Instant::now();
+        for _ in 0..CALLS {
+            black_box(proved.make(black_box(&mut store), call, &mut [0], &mut [0; STEP_BYTES]));
+        }
+        times.push(start.elapsed().as_nanos() / u128::from(CALLS));
+    }
+    times.sort();
+    println!("{name:34} {:>18}", format!("{}, {}", times[0], times[RUNS / 2]));
 }
 
 fn report(name: &str, input: &[u8]) {

@@ -2,20 +2,16 @@
 use mathlib.Core.Path.{_≡_}
 use mathlib.Core.Bool.{false}
 use mathlib.Core.List.{List, [], _∷_}
-use Prim.Native.Nat.{ℕ, _+_, _≤_, _<_}
+use Prim.Native.Nat.{ℕ, _+_, _≤_}
 use native.Mathlib.Omega.{arith}
-use lib.ListN.{length, getD, drop, drop-of-length-le}
 use lib.IntN.{ℤ, pos, negℤ, _+ℤ_}
 use Rattle.rules.specs.declared.Step.{Step}
-use Rattle.rules.specs.declared.Steps.{Steps}
 use Rattle.rules.specs.declared.Units.{Units}
 use Rattle.rules.specs.Tests.{any}
-use Rattle.rules.specs.Chain.{stepRows}
-use Rattle.rules.specs.Booking.{limit, beyond, position, place, addUnits, lessUnits, units, heldIn, moved, booked, stepBeyond, unitsBeyond}
+use Rattle.rules.specs.Booking.{limit, beyond, position, place, addUnits, lessUnits, units, heldIn, moved, stepBeyond, unitsBeyond}
 use Rattle.rules.proofs.Basics.{or-none}
 use Rattle.booking.specs.Room.{Room}
 use Rattle.booking.proofs.Bounds.{Within, within-two, within-plus, within-pos, within-neg, within-fits, within-added}
-use Rattle.booking.proofs.Sequence.{step-first, blankStep}
 
 -- the two numbers that a step touches
 pub record Touch (m : ℕ) (p : List ℤ) (s : ℕ) (x : Step) : Type 0 where
@@ -68,21 +64,3 @@ module _ (m s q : ℕ) (p : List ℤ) (small : q ≤ limit) (x : Step) where
   unfolding Touches
   touches-moved [] t = tt
   touches-moved (y ∷ xs) t = (record { from = held-moved (y .debited) (t .0 .from); to = held-moved (y .credited) (t .0 .to) }, touches-moved xs (t .1))
-
--- a turn: step i is booked, and the steps behind it are left
-module _ (x : Steps) (i s q : ℕ) (p : List ℤ) (here : i < length (stepRows x)) where
-  pub turn-touch : (m : ℕ) → Touches m p s (drop i (stepRows x)) → Touch m p s (getD (x .rows) i blankStep)
-  unfolding Touches
-  turn-touch m t = (rw (step-first x i here) at t) .0
-
-  pub turn-left : (m : ℕ) → q ≤ limit → Touches m p s (drop i (stepRows x)) → Touches (m + 1 + 1) (moved (getD (x .rows) i blankStep) s q p) s (drop (i + 1) (stepRows x))
-  unfolding Touches
-  turn-left m h t = touches-moved m s q p h (getD (x .rows) i blankStep) (drop (i + 1) (stepRows x)) ((rw (step-first x i here) at t) .1)
-
-  pub turn-booked : booked (drop (i + 1) (stepRows x)) s q (moved (getD (x .rows) i blankStep) s q p) ≡ booked (drop i (stepRows x)) s q p
-  unfolding booked
-  turn-booked = rw (step-first x i here)
-
-pub booked-end : (x : Steps) (i s q : ℕ) (p : List ℤ) → length (stepRows x) ≤ i → booked (drop i (stepRows x)) s q p ≡ p
-unfolding booked
-booked-end x i s q p h = rw (drop-of-length-le (stepRows x) h)

@@ -12,7 +12,7 @@ use lib.IntN.{ℤ, pos, negℤ, natAbs, _+ℤ_}
 use mir.Syntax.{w64}
 use mir.Val.{SFits}
 use Rattle.rules.specs.Booking.{limit, beyond}
-use Rattle.booking.proofs.Integers.{up, dn, add-law, neg-up, neg-dn, size, to-fits}
+use Rattle.amounts.proofs.Integers.{up, dn, add-law, neg-up, neg-dn, size, to-fits}
 
 -- z is within ±n · 10^15
 pub record Within (n : ℕ) (z : ℤ) : Type 0 where

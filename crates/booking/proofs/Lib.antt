@@ -1,16 +1,10 @@
-pub mod Tests
-pub mod Integers
-pub mod Sizes
 pub mod Bounds
-pub mod Sequence
 pub mod Booked
 pub mod Listed
 pub mod Paid
 pub mod Summed
 pub mod Refused
 pub mod Settled
-pub mod Owed
-pub mod Moving
-pub mod Promises
 pub mod Contras
 pub mod Moved
+pub mod Calls

@@ -2,16 +2,20 @@
 use mathlib.Core.Path.{_≡_, refl}
 use mathlib.Core.Bool.{Bool, true, false, cond}
 use mathlib.Core.List.{List}
-use Prim.Native.Nat.{ℕ, _+_, _≤_}
+use Prim.Native.Nat.{ℕ, zero, suc, _≤_}
 use native.Mathlib.Omega.{arith}
 use lib.Dec.{eqb}
 use lib.IntN.{ℤ, pos, negℤ, _+ℤ_}
 use mir.Syntax.{w64}
 use mir.Val.{SFits}
 use Rattle.rules.specs.declared.Cents.{Cents}
-use Rattle.rules.specs.Booking.{limit, balance, addCents, plusCents, cents, lessCents, cashOn, cashBeyond, payment, paid, paymentBeyond}
+use Rattle.rules.specs.declared.Answer.the-variants.{Accepted, Refused}
+use Rattle.rules.specs.Tests.{lowest}
+use Rattle.rules.specs.Lookups.{Lookups}
+use Rattle.rules.specs.Booking.{Way, limit, balance, addCents, plusCents, cents, lessCents, cashOn, cashBeyond, payment, payConditions, paid, paymentBeyond}
 use Rattle.rules.proofs.Basics.{or-none}
 use Rattle.booking.specs.Moves.{wayOf}
+use Rattle.booking.specs.Payments.{payOutcome}
 use Rattle.booking.proofs.Bounds.{within-one, within-two, within-plus, within-pos, within-neg, within-fits, within-added}
 
 -- one change that ends within ±10^15
@@ -45,3 +49,16 @@ paid-none c payer payee m e = rw e
 pub payment-signed : (b : Bool) (m : ℕ) → _≡_ {A = Cents} (record { 0 = cond b (pos m) (negℤ (pos m)) }) (payment (wayOf b) m)
 payment-signed true m = refl
 payment-signed false m = refl
+
+-- ---- a pay-in or pay-out by its number
+module _ (k : Lookups) (c : List ℤ) (w : Way) (a m : ℕ) where
+  pub pay-refused : (n : ℕ) → n ≡ lowest (payConditions k c w a m) → (n ≡ 0 → ⊥)
+      → (Refused n ≡ payOutcome k c w a m .answer) × (c ≡ payOutcome k c w a m .cash)
+  unfolding payOutcome
+  pay-refused zero e nonzero = absurd (nonzero refl)
+  pay-refused (suc n) e nonzero = rw (← e) (refl, refl)
+
+  pub pay-done : (n : ℕ) → n ≡ lowest (payConditions k c w a m) → n ≡ 0
+      → (Accepted ≡ payOutcome k c w a m .answer) × (addCents c a (payment w m) ≡ payOutcome k c w a m .cash)
+  unfolding payOutcome
+  pay-done n e clear = rw (← e, clear) (refl, refl)

@@ -1,83 +1,105 @@
--- A settlement by its number: that of the halves, then of the chain, then of its booking; else the chain's steps, booked and paid for.
-use Prim.Native.Nat.{ℕ, _≤_}
+-- A settlement by its number: 3, that of the halves, then of the chain, then of its booking; else the chain's steps, booked and paid for.
+use Prim.Native.Nat.{ℕ, zero, suc}
 use mathlib.Core.Path.{_≡_, refl, sym, ap, _∙_}
 use mathlib.Core.Bool.{false, _||_}
-use mathlib.Core.List.{List, [], _++_, append-assoc, append-nil}
-use lib.ListN.{length}
-use lib.Seq.{drop-nil}
+use mathlib.Core.List.{List, _++_, append-assoc}
 use lib.IntN.{ℤ}
-use borrow.Author.Tests.{ltb-false}
-use Rattle.rules.specs.declared.Directory.{Directory}
+use lib.ListN.{length}
+use borrow.Author.Tests.{eq-eqb, ne-eqb}
 use Rattle.rules.specs.declared.Half.{Half}
 use Rattle.rules.specs.declared.Step.{Step}
 use Rattle.rules.specs.declared.Answer.{Answer}
 use Rattle.rules.specs.declared.Answer.the-variants.{Booked, Refused}
-use Rattle.rules.specs.Tests.{lowest}
-use Rattle.rules.specs.Directory.{rowsOf}
-use Rattle.rules.specs.Chain.{chained, unchained, stepsOf, chainConditions}
-use Rattle.rules.specs.Booking.{limit, outOfRange, amountOutOfRange, booked, paid, unitsShort, unitsBeyond, cashShort, paymentBeyond}
-use Rattle.rules.specs.Calls.{Store, settle, halfOutOfRange, halvesConditions, halvesChain, deriveConditions, bookConditions, settleConditions}
+use Rattle.rules.specs.Tests.{Condition, lowest}
+use Rattle.rules.specs.Lookups.{Lookups}
+use Rattle.rules.specs.Chain.{chained, stepsOf, chainConditions}
+use Rattle.rules.specs.Booking.{booked, paid, unitsShort, unitsBeyond, cashShort, paymentBeyond}
+use Rattle.rules.specs.Calls.{halvesConditions, halvesChain, bookConditions, settleConditions}
 use Rattle.rules.proofs.Basics.{quiet, or-none}
-use Rattle.chain.proofs.Deriving.{lowest-first, lowest-then}
-use Rattle.booking.specs.Settling.{settled}
-use Rattle.booking.proofs.Refused.{core-refused, core-done, book-open, in-range}
+use Rattle.chain.specs.declared.steps.Found.{Found}
+use Rattle.chain.specs.StepList.{stepNumbers, stepsIn, noted}
+use Rattle.chain.specs.Steps.{FoundIn}
+use Rattle.chain.specs.Derivation.{Finds, derivedInto}
+use Rattle.chain.proofs.StepList.{steps-none, steps-counted}
+use Rattle.chain.proofs.Linking.{found-refused, found-chained}
+use Rattle.rules.proofs.Conditions.{lowest-first, lowest-then}
+use Rattle.chain.proofs.Deriving.{chain-fits, derives-misfit, derives-halves, derives-refused, derives-chained}
+use Rattle.booking.specs.Settling.{settleOutcome, settleInto, Settles}
+use Rattle.booking.proofs.Refused.{book-open}
 
-module _ (d : Directory) (p c : List ℤ) (h g : Half) where
-  -- what is answered, the steps, and the lists left
-  abbrev pub Settles : Answer → List Step → List ℤ → List ℤ → Type 0
-  Settles x xs p′ c′ =
-      (x ≡ settled d p c h g .answer)
-      × ((xs ≡ settled d p c h g .steps)
-      × ((p′ ≡ settled d p c h g .store .positions) × (c′ ≡ settled d p c h g .store .cash)))
+pub settle-fits : (l : List ℕ) (k : Lookups) (p c : List ℤ) (h g : Half) → length l ≡ stepNumbers → settleInto l k p c h g ≡ settleOutcome k p c h g
+unfolding settleInto
+settle-fits l k p c h g size = rw (eq-eqb (length l) stepNumbers size)
 
-  abbrev store : Store
-  store = record { directory = d; positions = p; cash = c }
+module _ (k : Lookups) (p c : List ℤ) (h g : Half) where
+  -- what 20 to 22 let pass can be booked and paid
+  pub booking-open : (xs : List Step) → lowest (bookConditions k p c h g xs) ≡ 0
+      → (unitsBeyond p (h .security) (h .quantity) xs ≡ false) × (paymentBeyond c (g .account) (h .account) (h .amount) ≡ false)
+  booking-open xs e =
+      let units = unitsBeyond p (h .security) (h .quantity) xs in
+      let payment = paymentBeyond c (g .account) (h .account) (h .amount) in
+      or-none units payment (book-open (unitsShort (k .kind) p (h .security) (h .quantity) xs) (cashShort c (g .account) (h .amount)) (units || payment) e .2)
 
-  refused-with : (n : ℕ) → n ≡ lowest (settleConditions (rowsOf d) p c h g) → (n ≡ 0 → ⊥) → Settles (Refused n) [] p c
-  refused-with n e some =
-      let r = core-refused (settle h g []) store n e some in
-      (r .0, (r .2, (ap (λ (st : Store). st .positions) (r .1), ap (λ (st : Store). st .cash) (r .1))))
+  module _ (l : List ℕ) where
+    -- what is answered, and the lists left
+    abbrev Leaves : Answer → List ℤ → List ℤ → List ℕ → Type 0
+    Leaves x p′ c′ m = Settles l m k p c h g x p′ c′
 
-  pub by-halves : (n : ℕ) → n ≡ lowest (halvesConditions (rowsOf d) h g) → (n ≡ 0 → ⊥) → Settles (Refused n) [] p c
-  by-halves n e some =
-      let derived = lowest-first (halvesConditions (rowsOf d) h g) (chainConditions (halvesChain (rowsOf d) h g)) (λ z. some (e ∙ z)) in
-      refused-with n (e ∙ sym derived ∙ sym (lowest-first (deriveConditions (rowsOf d) h g) _ (λ z. some (e ∙ sym derived ∙ z)))) some
+    pub by-length : (length l ≡ stepNumbers → ⊥) → Leaves (Refused 3) p c l
+    unfolding settleInto
+    by-length other =
+        let list = derives-misfit l k h g other .list in
+        rw (ne-eqb (length l) stepNumbers other) (record { answer = refl; steps = steps-none l; positions = refl; cash = refl; list = list })
 
-  module _ (n : ℕ) (is : n ≡ lowest (halvesConditions (rowsOf d) h g)) (ok : n ≡ 0) where
-    -- the halves are in order: the chain and its booking decide
-    then-chain : lowest (settleConditions (rowsOf d) p c h g)
-        ≡ lowest (chainConditions (halvesChain (rowsOf d) h g) ++ bookConditions (rowsOf d) p c h g (stepsOf (halvesChain (rowsOf d) h g)))
-    then-chain =
-        let halves = halvesConditions (rowsOf d) h g in
-        let chain = chainConditions (halvesChain (rowsOf d) h g) in
-        let book = bookConditions (rowsOf d) p c h g (stepsOf (halvesChain (rowsOf d) h g)) in
-        ap lowest (append-assoc halves chain book) ∙ lowest-then halves (chain ++ book) (quiet halves refl (sym is ∙ ok))
+    module _ (size : length l ≡ stepNumbers) where
+      refused-with : (n : ℕ) (m : List ℕ) → n ≡ lowest (settleConditions k p c h g) → (n ≡ 0 → ⊥) → m ≡ noted (derivedInto l k h g .steps) l
+          → Leaves (Refused n) p c m
+      unfolding settleOutcome
+      refused-with zero m e some list = absurd (some refl)
+      refused-with (suc n) m e some list =
+          rw (settle-fits l k p c h g size, ← e) (record { answer = refl; steps = steps-none m; positions = refl; cash = refl; list = list })
 
-    pub by-chain : (k : ℕ) → halvesChain (rowsOf d) h g ≡ unchained k → (k ≡ 0 → ⊥) → Settles (Refused k) [] p c
-    by-chain k e some = refused-with k (sym (then-chain ∙ rw e)) some
+      -- the conditions from those of the halves on
+      abbrev later : List Condition
+      later = chainConditions (halvesChain k h g) ++ bookConditions k p c h g (stepsOf (halvesChain k h g))
 
-    pub within : (h .quantity ≤ limit) × (h .amount ≤ limit)
-    within =
-        let q = quiet (halvesConditions (rowsOf d) h g) refl (sym is ∙ ok) in
-        let o = or-none (outOfRange (h .quantity)) (amountOutOfRange (h .amount)) (or-none (halfOutOfRange h) (halfOutOfRange g) (q .1 .0) .0) in
-        (in-range (h .quantity) (o .0), ltb-false limit (h .amount) (o .1))
+      in-order : settleConditions k p c h g ≡ halvesConditions k h g ++ later
+      in-order = append-assoc (halvesConditions k h g) (chainConditions (halvesChain k h g)) (bookConditions k p c h g (stepsOf (halvesChain k h g)))
 
-    module _ (xs : List Step) (e : halvesChain (rowsOf d) h g ≡ chained xs) (m : ℕ) (number : m ≡ lowest (bookConditions (rowsOf d) p c h g xs)) where
-      whole : m ≡ lowest (settleConditions (rowsOf d) p c h g)
-      whole = number ∙ sym (then-chain ∙ rw e)
+      pub by-halves : (n : ℕ) → n ≡ lowest (halvesConditions k h g) → (n ≡ 0 → ⊥) → Leaves (Refused n) p c l
+      by-halves n e some =
+          let first = lowest-first (halvesConditions k h g) later (λ z. some (e ∙ z)) in
+          refused-with n l (e ∙ sym (ap lowest in-order ∙ first)) some (derives-halves l k h g size n e some .list)
 
-      pub by-booking : (m ≡ 0 → ⊥) → Settles (Refused m) [] p c
-      by-booking some = refused-with m whole some
+      -- the halves are in order, and their chain is looked for
+      module _ (ok : lowest (halvesConditions k h g) ≡ 0) (m : List ℕ) (r : Found) (found : Finds l m k (h .security) (h .account) (g .account) r) where
+        then-later : lowest (settleConditions k p c h g) ≡ lowest later
+        then-later = ap lowest in-order ∙ lowest-then (halvesConditions k h g) later (quiet (halvesConditions k h g) refl ok)
 
-      pub clear : m ≡ 0 → (unitsBeyond p (h .security) (h .quantity) xs ≡ false) × (paymentBeyond c (g .account) (h .account) (h .amount) ≡ false)
-      clear none =
-          let units = unitsBeyond p (h .security) (h .quantity) xs in
-          let payment = paymentBeyond c (g .account) (h .account) (h .amount) in
-          or-none units payment (book-open (unitsShort (rowsOf d .accounts) p (h .security) (h .quantity) xs) (cashShort c (g .account) (h .amount)) (units || payment) (sym number ∙ none) .2)
+        is-found : FoundIn l m (halvesChain k h g) r
+        is-found = rw (chain-fits l k (h .security) (h .account) (g .account) size) at found
 
-      pub done : m ≡ 0 → Settles (Booked (length xs)) xs (booked xs (h .security) (h .quantity) p) (paid c (g .account) (h .account) (h .amount))
-      done none =
-          let r = core-done (settle h g []) store m whole none in (
-            rw e at (r .0),
-            (rw (e, drop-nil, append-nil) at (r .2), (rw e at (ap (λ (st : Store). st .positions) (r .1)), ap (λ (st : Store). st .cash) (r .1))),
-          )
+        pub by-chain : (r .refusal ≡ 0 → ⊥) → Leaves (Refused (r .refusal)) p c m
+        by-chain some =
+            refused-with (r .refusal) m (sym (then-later ∙ rw (found-refused is-found some .0))) some (derives-refused l k h g size ok m r found some .list)
+
+        -- there is a chain: its booking decides
+        module _ (clear : r .refusal ≡ 0) (n : ℕ) (number : n ≡ lowest (bookConditions k p c h g (stepsIn m (r .count)))) where
+          chain-is : halvesChain k h g ≡ chained (stepsIn m (r .count))
+          chain-is = found-chained is-found clear
+
+          whole : n ≡ lowest (settleConditions k p c h g)
+          whole = number ∙ sym (then-later ∙ rw chain-is)
+
+          list : m ≡ noted (derivedInto l k h g .steps) l
+          list = derives-chained l k h g size ok m r found clear .list
+
+          pub by-booking : (n ≡ 0 → ⊥) → Leaves (Refused n) p c m
+          by-booking some = refused-with n m whole some list
+
+          pub done : n ≡ 0 → (p′ c′ : List ℤ) → p′ ≡ booked (stepsIn m (r .count)) (h .security) (h .quantity) p
+              → c′ ≡ paid c (g .account) (h .account) (h .amount) → Leaves (Booked (r .count)) p′ c′ m
+          unfolding settleOutcome
+          done none p′ c′ e f =
+              rw (settle-fits l k p c h g size, sym whole ∙ none, chain-is)
+              (record { answer = ap Booked (steps-counted m (r .count)); steps = refl; positions = e; cash = f; list = list })

@@ -7,7 +7,6 @@ use native.Mathlib.Omega.{arith}
 use native.Mathlib.Numerals.{add-one}
 use native.Mathlib.Decide.{decLt}
 use lib.IntN.{ℤ, pos, _+ℤ_}
-use Rattle.rules.specs.declared.Account.{Account}
 use Rattle.rules.specs.declared.Units.{Units}
 use Rattle.rules.specs.declared.Cents.{Cents}
 use Rattle.rules.specs.declared.SecurityTotal.the-variants.{SumUnits, NoUnits}
@@ -56,11 +55,11 @@ module _ (w : ℕ → Bool) (f : ℕ → ℤ) where
           or-right (sumBeyond w f n) (w n && beyond (f n)) (rw last (pick-beyond (w i) (f i) ∙ e))
 
 -- the answers
-module _ (acc : List Account) (p : List ℤ) (s : ℕ) where
-  pub units-refused : sumBeyond (participants acc) (heldIn p s) accountLimit ≡ true → NoUnits 22 ≡ participantTotal acc p s
+module _ (kind : ℕ → ℕ → Bool) (p : List ℤ) (s : ℕ) where
+  pub units-refused : sumBeyond (participants kind) (heldIn p s) accountLimit ≡ true → NoUnits 22 ≡ participantTotal kind p s
   units-refused e = rw e
 
-  pub units-summed : (z : Units) → Summed (participants acc) (heldIn p s) accountLimit (z .0) → SumUnits z ≡ participantTotal acc p s
+  pub units-summed : (z : Units) → Summed (participants kind) (heldIn p s) accountLimit (z .0) → SumUnits z ≡ participantTotal kind p s
   units-summed z t = rw (t .within, ← t .is)
 
 module _ (c : List ℤ) where

@@ -1,5 +1,6 @@
 pub mod Room
 pub mod Refusals
 pub mod Moves
+pub mod Payments
 pub mod Sums
 pub mod Settling

@@ -8,7 +8,6 @@ use Rattle.rules.specs.Tests.{_when_, lowest}
 abbrev pub bookRefusal : Bool → Bool → Bool → ℕ
 bookRefusal units cash beyond = lowest (20 when units ∷ 21 when cash ∷ 22 when beyond ∷ [])
 
--- 6, 7, 10, the number that a missing chain gives, and then what booking gives
-abbrev pub callRefusal : Bool → Bool → Bool → Bool → ℕ → ℕ → ℕ
-callRefusal unknown range kind unchained number booking =
-    cond unknown 6 (cond range 7 (cond kind 10 (cond unchained number booking)))
+-- 6, 7, 10, and then the number that comes after them
+abbrev pub callRefusal : Bool → Bool → Bool → ℕ → ℕ
+callRefusal unknown range kind after = cond unknown 6 (cond range 7 (cond kind 10 after))

@@ -1,9 +1,58 @@
--- The settlement of the rules over lent positions and cash, its steps handed back by value.
+-- Settlement over look-ups, with a list lent for the numbers of its steps: what it answers, and what it leaves in the lists. Assumes nothing.
+use Prim.Native.Nat.{ℕ, zero, suc}
+use mathlib.Core.Path.{_≡_}
+use mathlib.Core.Bool.{cond}
 use mathlib.Core.List.{List, []}
+use lib.Dec.{eqb}
 use lib.IntN.{ℤ}
-use Rattle.rules.specs.declared.Directory.{Directory}
+use lib.ListN.{length}
 use Rattle.rules.specs.declared.Half.{Half}
-use Rattle.rules.specs.Calls.{Outcome, core, settle}
+use Rattle.rules.specs.declared.Step.{Step}
+use Rattle.rules.specs.declared.Answer.{Answer}
+use Rattle.rules.specs.declared.Answer.the-variants.{Booked, Refused}
+use Rattle.rules.specs.Tests.{lowest}
+use Rattle.rules.specs.Lookups.{Lookups}
+use Rattle.rules.specs.Chain.{stepsOf}
+use Rattle.rules.specs.Booking.{booked, paid}
+use Rattle.rules.specs.Calls.{countOf, halvesChain, settleConditions}
+use Rattle.chain.specs.StepList.{stepNumbers, stepsIn, noted}
+use Rattle.chain.specs.Derivation.{derivedInto}
 
-abbrev pub settled : Directory → List ℤ → List ℤ → Half → Half → Outcome
-settled d p c h g = core (settle h g []) (record { directory = d; positions = p; cash = c })
+-- what a settlement answers, the steps that the answer counts, and the positions and cash after it
+pub record SettleOutcome : Type 0 where
+  pub answer : Answer
+  pub steps : List Step
+  pub positions : List ℤ
+  pub cash : List ℤ
+
+-- by the refusal's number: the steps are booked and paid for, or nothing changes
+abbrev pub settleOutcomeBy : ℕ → List ℤ → List ℤ → Half → Half → List Step → SettleOutcome
+settleOutcomeBy zero p c h g xs =
+    record {
+      answer = Booked (length xs);
+      steps = xs;
+      positions = booked xs (h .security) (h .quantity) p;
+      cash = paid c (g .account) (h .account) (h .amount);
+    }
+settleOutcomeBy (suc n) p c h g xs = record { answer = Refused (suc n); steps = []; positions = p; cash = c }
+
+-- the settlement of the halves h, which delivers, and g, which receives
+unfoldable pub settleOutcome : Lookups → List ℤ → List ℤ → Half → Half → SettleOutcome
+settleOutcome k p c h g = settleOutcomeBy (lowest (settleConditions k p c h g)) p c h g (stepsOf (halvesChain k h g))
+
+-- the same into the lent list l; 3 where the list has another length
+unfoldable pub settleInto : List ℕ → Lookups → List ℤ → List ℤ → Half → Half → SettleOutcome
+settleInto l k p c h g = cond (eqb (length l) stepNumbers) (settleOutcome k p c h g) (settleOutcomeBy 3 p c h g [])
+
+-- The list l was lent for steps and is left as m, with the steps xs noted. What is answered, the steps of the answer that m then holds, and the positions
+-- and cash left are the outcome's.
+pub record SettledIn (l m : List ℕ) (xs : List Step) (o : SettleOutcome) (r : Answer) (p c : List ℤ) : Type 0 where
+  pub answer : r ≡ o .answer
+  pub steps : stepsIn m (countOf r) ≡ o .steps
+  pub positions : p ≡ o .positions
+  pub cash : c ≡ o .cash
+  pub list : m ≡ noted xs l
+
+-- what a function that settles promises: it leaves the list as a derivation does, so that the chain stands there also where 20 to 22 then refuse
+abbrev pub Settles : List ℕ → List ℕ → Lookups → List ℤ → List ℤ → Half → Half → Answer → List ℤ → List ℤ → Type 0
+Settles l m k p c h g r p′ c′ = SettledIn l m (derivedInto l k h g .steps) (settleInto l k p c h g) r p′ c′

@@ -1,19 +1,18 @@
 -- A total by its parts, as the code adds it up.
 use Prim.Native.Nat.{ℕ}
-use mathlib.Core.Bool.{cond}
+use mathlib.Core.Bool.{Bool, cond}
 use mathlib.Core.List.{List, [], _∷_}
 use lib.IntN.{ℤ, pos}
-use Rattle.rules.specs.declared.Account.{Account}
 use Rattle.rules.specs.declared.SecurityTotal.{SecurityTotal}
 use Rattle.rules.specs.Tests.{_when_, lowest}
 use Rattle.rules.specs.Directory.{accountLimit}
 use Rattle.rules.specs.Booking.{heldIn, participants, participantSum, sumBeyond, securityTotalBy}
 
 -- what an account counts for: a participant's position, else nothing
-abbrev pub counted : List Account → List ℤ → ℕ → ℕ → ℤ
-counted acc p s a = cond (participants acc a) (heldIn p s a) (pos 0)
+abbrev pub counted : (ℕ → ℕ → Bool) → List ℤ → ℕ → ℕ → ℤ
+counted kind p s a = cond (participants kind a) (heldIn p s a) (pos 0)
 
 -- the total of a security that is entered
-abbrev pub participantTotal : List Account → List ℤ → ℕ → SecurityTotal
-participantTotal acc p s =
-    securityTotalBy (lowest (22 when sumBeyond (participants acc) (heldIn p s) accountLimit ∷ [])) (participantSum acc p s)
+abbrev pub participantTotal : (ℕ → ℕ → Bool) → List ℤ → ℕ → SecurityTotal
+participantTotal kind p s =
+    securityTotalBy (lowest (22 when sumBeyond (participants kind) (heldIn p s) accountLimit ∷ [])) (participantSum kind p s)

@@ -1,31 +1,32 @@
-// Bring in and take out: chains of one step between a participant account and the account against which its CSD holds the
-// security.
-use crate::book_steps;
-use crate::positions;
-use crate::refusals;
-use chain::steps::unchained;
-use directory::links::LinkFound;
-use directory::links::{self};
-use directory::pairs::PairFound;
-use directory::pairs::{self};
-use directory::rows;
+// Bring in and take out: one step between a participant account and the account against which its CSD holds the security.
+use crate::judging::judge_step;
+use crate::positions::move_units;
+use crate::refusals::book_refusal;
+use crate::refusals::call_refusal;
+use crate::refusals::out_of_range;
+use index::lookups::Leading;
+use index::lookups::PairFound;
+use index::lookups::home_of;
+use index::lookups::is_account;
+use index::lookups::is_external;
+use index::lookups::is_kind;
+use index::lookups::is_security;
+use index::lookups::issuance_of;
+use index::lookups::leading_at;
+use index::lookups::pair_of;
+use index::places::INDEX;
 use rules::Answer;
-use rules::ChainFound;
-use rules::CsdTable;
-use rules::Directory;
-use rules::LinkTable;
-use rules::PairTable;
-use rules::STEPS;
+use rules::PARTICIPANT;
 use rules::Step;
-use rules::Steps;
 ghost use mathlib.Core.Path.{_≡_};
-ghost use mathlib.Core.List.{[], _∷_};
+ghost use mathlib.Core.Bool.{cond};
+ghost use mathlib.Core.Option.{some};
+ghost use Prim.Native.Nat.{_≤_};
+ghost use lib.Dec.{eqb};
 ghost use Rattle.rules.specs.Tests.{lowest};
-ghost use Rattle.rules.specs.Directory.{csdRows, pairRows, linkRows, rowsOf, defaultLink};
-ghost use Rattle.rules.specs.Chain.{step, stepRows, stepsOf, chained, chainIn};
-ghost use Rattle.rules.specs.Booking.{interCsd, contra, incoming, outgoing, moveChain, moveConditions};
-ghost use Rattle.rules.specs.Calls.{core, move};
-ghost use Rattle.booking.specs.Moves.{wayOf, contraFound, lentPositions};
+ghost use Rattle.rules.specs.Booking.{limit, interCsd, contra, moveStep, moved};
+ghost use Rattle.index.specs.Asked.{asked};
+ghost use Rattle.booking.specs.Moves.{wayOf, contraFound, operandConditions, stepConditions, moveOutcome};
 
 // The account on the other side, if there is one.
 pub enum Contra {
@@ -33,151 +34,105 @@ pub enum Contra {
     Missing,
 }
 
-// "the inter-CSD account of its default link to an external CSD"
-fn inter_csd(csds: CsdTable, pairs: PairTable, links: LinkTable, security: u8, csd: u8) -> Contra
-    ensures { λ r. ⌜ r ≡ contraFound (interCsd (csdRows csds) (pairRows pairs) csd (defaultLink (linkRows links) security csd)) ⌝ }
+// "the inter-CSD account of its default link to an external CSD", which is the technical issuer
+fn inter_csd(index: &[u16; INDEX], csd: u8, technical: u8) -> Contra
+    ensures { λ r. ⌜ r ≡ contraFound (interCsd (asked (now (index .entry))) csd (some technical)) ⌝ }
 {
-    match links::default_link(links, security, csd) {
-        LinkFound::Row(link) => {
-            if rows::is_external(csds, link.technical) {
-                match pairs::pair_of(pairs, csd, link.technical) {
-                    PairFound::Row(pair) => Contra::At(pair.mirror),
-                    PairFound::Missing => Contra::Missing,
-                }
-            } else {
-                Contra::Missing
-            }
-        }
-        LinkFound::Missing => Contra::Missing,
+    if is_external(index, technical) {
+        return match pair_of(index, csd, technical) {
+            PairFound::Row(pair) => Contra::At(pair.mirror),
+            PairFound::Missing => Contra::Missing,
+        };
     }
+    Contra::Missing
 }
 
 // "in its CSD, the issuance account of its issuer link, else the inter-CSD account"
-fn contra_of(csds: CsdTable, pairs: PairTable, links: LinkTable, security: u8, csd: u8) -> Contra
-    ensures { λ r. ⌜ r ≡ contraFound (contra (csdRows csds) (pairRows pairs) (linkRows links) security csd) ⌝ }
+fn contra_of(index: &[u16; INDEX], security: u8, csd: u8) -> Contra
+    ensures { λ r. ⌜ r ≡ contraFound (contra (asked (now (index .entry))) security csd) ⌝ }
 {
-    match links::issuer_link(links, security, csd) {
-        LinkFound::Row(link) => Contra::At(link.account),
-        LinkFound::Missing => inter_csd(csds, pairs, links, security, csd),
+    match leading_at(index, security, csd) {
+        Leading::Issuer => Contra::At(issuance_of(index, security, csd)),
+        Leading::To(technical) => inter_csd(index, csd, technical),
+        Leading::Nowhere => Contra::Missing,
     }
 }
 
-fn one_step(csd: u8, debited: u16, credited: u16) -> ChainFound
-    ensures { λ r. ⌜ (chainIn r ≡ chained (step csd debited credited ∷ [])) × (stepRows (r .steps) ≡ step csd debited credited ∷ []) ⌝ }
+// 6, 7 and 10; 0 where none applies.
+fn move_refusal(index: &[u16; INDEX], account: u16, security: u8, quantity: u64) -> u8
+    ensures { λ r. ⌜ r ≡ lowest (operandConditions (asked (now (index .entry))) account security quantity) ⌝ }
 {
-    let only = Step {
-        csd,
-        debited,
-        credited,
-    };
-    let steps = Steps {
-        count: 1,
-        rows: [only; STEPS],
-    };
-    ChainFound { refusal: 0, steps }
+    let known = is_account(index, account);
+    let listed = is_security(index, security);
+    let range = out_of_range(quantity);
+    let participant = is_kind(index, account, PARTICIPANT);
+    call_refusal(!known | !listed, range, !participant, 0)
 }
 
-// The one step of a bring-in or take-out on the account, or no step and 19: "no issuer link and no default link to an external
-// CSD, or no pair for it".
-pub fn move_chain(directory: Directory, incoming: bool, account: u16, security: u8) -> ChainFound
-    ensures { λ r. ⌜ (chainIn r ≡ moveChain (rowsOf directory) (wayOf incoming) account security) × (stepRows (r .steps) ≡ stepsOf (moveChain (rowsOf directory) (wayOf incoming) account security)) ⌝ }
+// The step of a bring-in or take-out between the account and the other one.
+fn move_step(incoming: bool, csd: u8, account: u16, other: u16) -> Step
+    ensures { λ r. ⌜ r ≡ moveStep (wayOf incoming) csd account other ⌝ }
 {
-    let csd = rows::home_of(directory.accounts, account);
-    match contra_of(
-        directory.csds,
-        directory.pairs,
-        directory.links,
-        security,
+    if incoming {
+        return Step {
+            csd,
+            debited: other,
+            credited: account,
+        };
+    }
+    Step {
         csd,
-    ) {
-        Contra::At(other) => {
-            if incoming {
-                one_step(csd, other, account)
-            } else {
-                one_step(csd, account, other)
-            }
-        }
-        Contra::Missing => unchained(19),
+        debited: account,
+        credited: other,
     }
 }
 
-// The chain of a bring-in or take-out, and its refusal: 6 to 22, judged on the positions as they are lent.
-fn judge_move(
-    directory: Directory,
-    positions: &[i64],
-    incoming: bool,
-    account: u16,
+// 20 and 22 of the step; it is booked where neither applies.
+fn book_step(
+    index: &[u16; INDEX],
+    positions: &mut [i64],
     security: u8,
     quantity: u64,
-) -> ChainFound
-    ensures { λ r. ⌜ (r .refusal ≡ lowest (moveConditions (rowsOf directory) (now (positions .entry)) (wayOf incoming) account security quantity)) × (stepRows (r .steps) ≡ stepsOf (moveChain (rowsOf directory) (wayOf incoming) account security)) ⌝ }
+    step: Step,
+) -> u8
+    requires { ⌜ quantity ≤ limit ⌝ }
+    ensures refusal { λ r. ⌜ r ≡ lowest (stepConditions (asked (now (index .entry)) .kind) (now (positions .entry)) security quantity step) ⌝ }
+    ensures left { λ r. ⌜ now (positions .exit) ≡ cond (eqb r 0) (moved step security quantity (now (positions .entry))) (now (positions .entry)) ⌝ }
 {
-    let found = move_chain(directory, incoming, account, security);
-    let steps = found.steps;
-    let number = found.refusal;
-    let known = rows::is_account(directory.accounts, account);
-    let listed = rows::is_security(directory.securities, security);
-    let range = refusals::out_of_range(quantity);
-    let participant = rows::is_kind(directory.accounts, account, 0);
-    let short = positions::units_short(directory.accounts, positions, security, quantity, steps);
-    let beyond = positions::units_beyond(positions, security, quantity, steps);
-    let booking = refusals::book_refusal(short, false, beyond);
-    let refusal = refusals::call_refusal(
-        !known | !listed,
-        range,
-        !participant,
-        number != 0,
-        number,
-        booking,
-    );
-    ChainFound { refusal, steps }
+    let judged = judge_step(index, positions, security, quantity, step);
+    let refusal = book_refusal(judged.short, false, judged.beyond);
+    if refusal != 0 {
+        return refusal;
+    }
+    move_units(positions, security, quantity, step);
+    0
 }
 
-// A bring-in or take-out: judged, then booked.
-fn move_core(
-    directory: Directory,
+// "Bring in credits a participant account and debits, in its CSD," the account on the other side. "Take out is the reverse."
+pub fn move_securities(
+    index: &[u16; INDEX],
     positions: &mut [i64],
     incoming: bool,
     account: u16,
     security: u8,
     quantity: u64,
 ) -> Answer
-    ensures answer { λ r. ⌜ r ≡ core (move (wayOf incoming) account security quantity) (lentPositions directory (now (positions .entry))) .answer ⌝ }
-    ensures left { λ _. ⌜ now (positions .exit) ≡ core (move (wayOf incoming) account security quantity) (lentPositions directory (now (positions .entry))) .store .positions ⌝ }
+    ensures answer { λ r. ⌜ r ≡ moveOutcome (asked (now (index .entry))) (now (positions .entry)) (wayOf incoming) account security quantity .answer ⌝ }
+    ensures positions { λ _. ⌜ now (positions .exit)
+        ≡ moveOutcome (asked (now (index .entry))) (now (positions .entry)) (wayOf incoming) account security quantity .positions ⌝ }
 {
-    let judged = judge_move(directory, positions, incoming, account, security, quantity);
-    let refusal = judged.refusal;
+    let refusal = move_refusal(index, account, security, quantity);
     if refusal != 0 {
         return Answer::Refused(refusal);
     }
-    book_steps(positions, security, quantity, judged.steps);
+    let csd = home_of(index, account);
+    let Contra::At(other) = contra_of(index, security, csd) else {
+        return Answer::Refused(19);
+    };
+    let step = move_step(incoming, csd, account, other);
+    let booking = book_step(index, positions, security, quantity, step);
+    if booking != 0 {
+        return Answer::Refused(booking);
+    }
     Answer::Accepted
-}
-
-// "Bring in credits a participant account and debits, in its CSD," the account on the other side.
-pub fn bring_in_core(
-    directory: Directory,
-    positions: &mut [i64],
-    account: u16,
-    security: u8,
-    quantity: u64,
-) -> Answer
-    ensures answer { λ r. ⌜ r ≡ core (move incoming account security quantity) (lentPositions directory (now (positions .entry))) .answer ⌝ }
-    ensures left { λ _. ⌜ now (positions .exit) ≡ core (move incoming account security quantity) (lentPositions directory (now (positions .entry))) .store .positions ⌝ }
-{
-    move_core(directory, positions, true, account, security, quantity)
-}
-
-// "Take out is the reverse."
-pub fn take_out_core(
-    directory: Directory,
-    positions: &mut [i64],
-    account: u16,
-    security: u8,
-    quantity: u64,
-) -> Answer
-    ensures answer { λ r. ⌜ r ≡ core (move outgoing account security quantity) (lentPositions directory (now (positions .entry))) .answer ⌝ }
-    ensures left { λ _. ⌜ now (positions .exit) ≡ core (move outgoing account security quantity) (lentPositions directory (now (positions .entry))) .store .positions ⌝ }
-{
-    move_core(directory, positions, false, account, security, quantity)
 }

@@ -1,18 +1,18 @@
 // "The lowest number that applies is given", of the calls that book.
-use chain::halves::LIMIT;
+use rules::LIMIT;
 ghost use mathlib.Core.Path.{_≡_};
 ghost use Rattle.rules.specs.Booking.{outOfRange};
 ghost use Rattle.booking.specs.Refusals.{bookRefusal, callRefusal};
 
 // 7 of a quantity, and of an amount paid in or out: "1 to 10^15".
-pub fn out_of_range(n: u64) -> bool
+pub(crate) fn out_of_range(n: u64) -> bool
     ensures { λ r. ⌜ r ≡ outOfRange n ⌝ }
 {
     (n == 0) | (LIMIT < n)
 }
 
 // The lowest of 20, 21 and 22, or 0.
-pub fn book_refusal(units: bool, cash: bool, beyond: bool) -> u8
+pub(crate) fn book_refusal(units: bool, cash: bool, beyond: bool) -> u8
     ensures { λ r. ⌜ r ≡ bookRefusal units cash beyond ⌝ }
 {
     if units {
@@ -27,16 +27,9 @@ pub fn book_refusal(units: bool, cash: bool, beyond: bool) -> u8
     0
 }
 
-// The lowest of 6, 7, 10 and the number that a missing chain gives, else what booking gives.
-pub fn call_refusal(
-    unknown: bool,
-    range: bool,
-    kind: bool,
-    unchained: bool,
-    number: u8,
-    booking: u8,
-) -> u8
-    ensures { λ r. ⌜ r ≡ callRefusal unknown range kind unchained number booking ⌝ }
+// The lowest of 6, 7 and 10, else the number that comes after them.
+pub(crate) fn call_refusal(unknown: bool, range: bool, kind: bool, after: u8) -> u8
+    ensures { λ r. ⌜ r ≡ callRefusal unknown range kind after ⌝ }
 {
     if unknown {
         return 6;
@@ -47,8 +40,5 @@ pub fn call_refusal(
     if kind {
         return 10;
     }
-    if unchained {
-        return number;
-    }
-    booking
+    after
 }

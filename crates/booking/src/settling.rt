@@ -1,86 +1,112 @@
 // Settlement of two halves: the steps of their chain are booked, and "receiving cash pays delivering cash".
-use crate::book_steps;
-use crate::cash;
-use crate::pay;
-use crate::positions;
-use crate::refusals;
+use crate::cash::cash_short;
+use crate::cash::pay;
+use crate::cash::payment_beyond;
+use crate::judging::judge_steps;
+use crate::positions::move_units;
+use crate::refusals::book_refusal;
 use chain::derivation::chain_of;
-use chain::derivation::refused;
 use chain::halves::halves_refusal;
+use chain::step_list::STEP_NUMBERS;
+use chain::step_list::step_at;
+use index::places::INDEX;
 use rules::Answer;
-use rules::Directory;
 use rules::Half;
-use rules::Reply;
-use rules::Steps;
 ghost use mathlib.Core.Path.{_≡_};
+ghost use mathlib.Core.Bool.{false};
+ghost use Prim.Native.Nat.{_≤_};
 ghost use Rattle.rules.specs.Tests.{lowest};
-ghost use Rattle.rules.specs.Directory.{rowsOf};
-ghost use Rattle.rules.specs.Chain.{stepRows};
+ghost use Rattle.rules.specs.Chain.{stepLimit};
+ghost use Rattle.rules.specs.Booking.{limit, booked, unitsBeyond};
 ghost use Rattle.rules.specs.Calls.{bookConditions};
-ghost use Rattle.booking.specs.Settling.{settled};
+ghost use Rattle.index.specs.Asked.{asked};
+ghost use Rattle.chain.specs.StepList.{stepsIn};
+ghost use Rattle.booking.specs.Settling.{Settles};
+
+// The first `count` steps of the list, once 22 lets them pass.
+fn book_steps(positions: &mut [i64], security: u8, quantity: u64, steps: &[u16], count: usize)
+    requires { ⌜ (quantity ≤ limit) × (count ≤ stepLimit) × (unitsBeyond (now positions) security quantity (stepsIn (now steps) count) ≡ false) ⌝ }
+    ensures { λ _. ⌜ now (positions .exit) ≡ booked (stepsIn (now (steps .entry)) count) security quantity (now (positions .entry)) ⌝ }
+{
+    let mut i: usize = 0;
+    while i < count {
+        move_units(positions, security, quantity, step_at(steps, i));
+        i += 1;
+    }
+}
 
 // 20 over all steps, 21, then 22 over all changed numbers, judged on the lists as they are lent.
 fn judge_booking(
-    directory: Directory,
+    index: &[u16; INDEX],
     positions: &[i64],
     cash: &[i64],
     delivering: Half,
     receiving: Half,
-    steps: Steps,
+    steps: &[u16],
+    count: usize,
 ) -> u8
-    ensures { λ r. ⌜ r ≡ lowest (bookConditions (rowsOf directory) (now (positions .entry)) (now (cash .entry)) delivering receiving (stepRows steps)) ⌝ }
+    ensures { λ r. ⌜ r ≡ lowest (bookConditions (asked (now (index .entry))) (now (positions .entry)) (now (cash .entry)) delivering receiving
+        (stepsIn (now (steps .entry)) count)) ⌝ }
 {
-    let security = delivering.security;
-    let quantity = delivering.quantity;
     let amount = delivering.amount;
     let payer = receiving.account;
     let payee = delivering.account;
-    let short = positions::units_short(directory.accounts, positions, security, quantity, steps);
-    let unpaid = cash::cash_short(cash, payer, amount);
-    let units = positions::units_beyond(positions, security, quantity, steps);
-    let payment = cash::payment_beyond(cash, payer, payee, amount);
-    refusals::book_refusal(short, unpaid, units | payment)
+    let units = judge_steps(
+        index,
+        positions,
+        delivering.security,
+        delivering.quantity,
+        steps,
+        count,
+    );
+    let unpaid = cash_short(cash, payer, amount);
+    let payment = payment_beyond(cash, payer, payee, amount);
+    book_refusal(units.short, unpaid, units.beyond | payment)
 }
 
-// 6 to 13 of the halves, 14 to 18 of their chain, 20 to 22 of its booking; then it is booked and paid for.
-pub fn settle_core(
-    directory: Directory,
+// 6 to 13 of the halves, 14 to 18 of their chain, 20 to 22 of its booking; then it is booked and paid for. A step list of another length is refused 3.
+pub fn settle(
+    index: &[u16; INDEX],
     positions: &mut [i64],
     cash: &mut [i64],
+    steps: &mut [u16],
     delivering: Half,
     receiving: Half,
-) -> Reply
-    ensures answer { λ r. ⌜ r .answer ≡ settled directory (now (positions .entry)) (now (cash .entry)) delivering receiving .answer ⌝ }
-    ensures steps { λ r. ⌜ stepRows (r .steps) ≡ settled directory (now (positions .entry)) (now (cash .entry)) delivering receiving .steps ⌝ }
-    ensures positions { λ _. ⌜ now (positions .exit) ≡ settled directory (now (positions .entry)) (now (cash .entry)) delivering receiving .store .positions ⌝ }
-    ensures cash { λ _. ⌜ now (cash .exit) ≡ settled directory (now (positions .entry)) (now (cash .entry)) delivering receiving .store .cash ⌝ }
+) -> Answer
+    ensures { λ r. ⌜ Settles (now (steps .entry)) (now (steps .exit)) (asked (now (index .entry))) (now (positions .entry)) (now (cash .entry))
+        delivering receiving r (now (positions .exit)) (now (cash .exit)) ⌝ }
 {
-    let halves = halves_refusal(directory, delivering, receiving);
+    if steps.len() != STEP_NUMBERS {
+        return Answer::Refused(3);
+    }
+    let halves = halves_refusal(index, delivering, receiving);
     if halves != 0 {
-        return refused(halves);
+        return Answer::Refused(halves);
     }
     let found = chain_of(
-        directory,
+        index,
         delivering.security,
         delivering.account,
         receiving.account,
+        steps,
     );
-    let missing = found.refusal;
-    if missing != 0 {
-        return refused(missing);
+    if found.refusal != 0 {
+        return Answer::Refused(found.refusal);
     }
-    let steps = found.steps;
-    let booking = judge_booking(directory, positions, cash, delivering, receiving, steps);
+    let count = found.count;
+    let booking = judge_booking(index, positions, cash, delivering, receiving, steps, count);
     if booking != 0 {
-        return refused(booking);
+        return Answer::Refused(booking);
     }
     let payer = receiving.account;
     let payee = delivering.account;
-    book_steps(positions, delivering.security, delivering.quantity, steps);
-    pay(cash, payer, payee, delivering.amount);
-    let count = positions::steps_in_use(steps);
-    Reply {
-        answer: Answer::Booked(count),
+    book_steps(
+        positions,
+        delivering.security,
+        delivering.quantity,
         steps,
-    }
+        count,
+    );
+    pay(cash, payer, payee, delivering.amount);
+    Answer::Booked(count)
 }

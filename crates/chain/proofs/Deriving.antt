@@ -1,86 +1,111 @@
--- The derivation by its refusal: that of the halves, then that of the chain, else the chain's steps.
-use Prim.Native.Nat.{ℕ, zero, suc, _≤_}
+-- The derivation by its refusal: that of the lent list, of the halves, of the chain, else the chain's steps. It is the call of the rules.
+use Prim.Native.Nat.{ℕ, zero, suc}
 use mathlib.Core.Path.{_≡_, refl, sym, ap, _∙_}
-use mathlib.Core.Bool.{Bool, true, false, cond}
-use mathlib.Core.List.{List, [], _∷_, _++_, append-nil}
-use native.Mathlib.Omega.{arith}
-use lib.ListN.{length, take, length-take}
-use lib.Seq.{drop-nil}
-use Rattle.rules.specs.declared.Directory.{Directory}
+use mathlib.Core.List.{List, []}
+use lib.ListN.{length}
+use borrow.Author.Tests.{eq-eqb, ne-eqb}
 use Rattle.rules.specs.declared.Half.{Half}
 use Rattle.rules.specs.declared.Step.{Step}
-use Rattle.rules.specs.declared.Steps.{Steps}
-use Rattle.rules.specs.declared.ChainFound.{ChainFound}
-use Rattle.rules.specs.declared.Answer.{Answer}
 use Rattle.rules.specs.declared.Answer.the-variants.{Chained, Refused}
-use Rattle.rules.specs.Tests.{Condition, lowest}
+use Rattle.rules.specs.Tests.{lowest}
 use Rattle.rules.specs.Directory.{rowsOf}
-use Rattle.rules.specs.Chain.{Chain, chained, unchained, chainBy, chainIn, stepRows, chainConditions}
-use Rattle.rules.specs.Calls.{Store, Call, derive, outcome, core, halvesConditions, halvesChain, deriveConditions}
-use Rattle.rules.proofs.Basics.{Quiet, quiet}
-use Rattle.chain.specs.Derivation.{derived}
+use Rattle.rules.specs.Lookups.{Lookups, ask}
+use Rattle.rules.specs.Chain.{chained, unchained, chain, stepsOf, chainConditions}
+use Rattle.rules.specs.Calls.{Store, Outcome, derive, outcome, core, written, halvesConditions, halvesChain, deriveConditions}
+use Rattle.rules.proofs.Basics.{quiet, impossible}
+use Rattle.rules.proofs.Conditions.{lowest-first, lowest-then}
+use Rattle.chain.specs.StepList.{stepNumbers, stepsIn, noted}
+use Rattle.chain.specs.Derivation.{chainInto, Finds, Derived, derivedBy, derived, derivedInto, DerivedIn, Derives}
+use Rattle.chain.specs.declared.steps.Found.{Found}
+use Rattle.chain.proofs.StepList.{steps-none, steps-counted, noted-none}
+use Rattle.chain.proofs.Linking.{found-refused, found-chained}
 
--- ---- two lists of conditions: the first that applies decides
-pub lowest-first : (cs ds : List Condition) → (lowest cs ≡ 0 → ⊥) → lowest (cs ++ ds) ≡ lowest cs
-lowest-first [] ds z = absurd (z refl)
-lowest-first (x ∷ cs) ds z = go (x .holds) z (λ w. lowest-first cs ds w)
-  where
-    go : (b : Bool) → (cond b (x .number) (lowest cs) ≡ 0 → ⊥) → ((lowest cs ≡ 0 → ⊥) → lowest (cs ++ ds) ≡ lowest cs)
-        → cond b (x .number) (lowest (cs ++ ds)) ≡ cond b (x .number) (lowest cs)
-    go true z rest = refl
-    go false z rest = rest z
+-- ---- the chain and the derivation by the length of the lent list
+module _ (l : List ℕ) (k : Lookups) (s a b : ℕ) where
+  pub chain-misfit : (length l ≡ stepNumbers → ⊥) → chainInto l k s a b ≡ unchained 3
+  unfolding chainInto
+  chain-misfit z = rw (ne-eqb (length l) stepNumbers z)
 
-pub lowest-then : (cs ds : List Condition) → Quiet cs → lowest (cs ++ ds) ≡ lowest ds
-lowest-then [] ds q = refl
-lowest-then (x ∷ cs) ds q = rw (q .0) (lowest-then cs ds (q .1))
+  pub chain-fits : length l ≡ stepNumbers → chainInto l k s a b ≡ chain k s a b
+  unfolding chainInto
+  chain-fits e = rw (eq-eqb (length l) stepNumbers e)
 
--- ---- a chain found, by its number
-pub by-refused : (n : ℕ) (ss : List Step) → (n ≡ 0 → ⊥) → chainBy n ss ≡ unchained n
-by-refused zero ss z = absurd (z refl)
-by-refused (suc n) ss z = refl
+module _ (l : List ℕ) (k : Lookups) (h g : Half) where
+  pub derived-misfit : (length l ≡ stepNumbers → ⊥) → derivedInto l k h g ≡ derivedBy 3 []
+  unfolding derivedInto
+  derived-misfit z = rw (ne-eqb (length l) stepNumbers z)
 
-pub chain-refused : (x : ChainFound) → (x .refusal ≡ 0 → ⊥) → chainIn x ≡ unchained (x .refusal)
-chain-refused x z = by-refused (x .refusal) (stepRows (x .steps)) z
+  pub derived-fits : length l ≡ stepNumbers → derivedInto l k h g ≡ derived k h g
+  unfolding derivedInto
+  derived-fits e = rw (eq-eqb (length l) stepNumbers e)
 
-pub chain-found : (x : ChainFound) → x .refusal ≡ 0 → chainIn x ≡ chained (stepRows (x .steps))
-chain-found x z = rw z
+-- ---- the derivation by its number
+module _ (k : Lookups) (h g : Half) where
+  by-number : (n : ℕ) → lowest (deriveConditions k h g) ≡ n → derived k h g ≡ derivedBy n (stepsOf (halvesChain k h g))
+  unfolding derived
+  by-number n e = ap (λ (i : ℕ). derivedBy i (stepsOf (halvesChain k h g))) e
 
--- the count of steps in use is their number
-pub counted : (x : Steps) → length (x .rows) ≡ 16 → x .count ≤ 16 → x .count ≡ length (stepRows x)
-counted x n h = rw length-take (omega arith)
-
--- ---- the derivation
-module _ (d : Directory) (h g : Half) where
-  abbrev call : Call
-  call = derive h g []
-
-  abbrev store : Store
-  store = record { directory = d; positions = []; cash = [] }
-
-  by-number : (n : ℕ) → lowest (deriveConditions (rowsOf d) h g) ≡ n → derived d h g ≡ outcome n call store
-  unfolding core
-  by-number n e = ap (λ (k : ℕ). outcome k call store) e
-
-  -- what is answered, and the steps
-  abbrev pub Answers : Answer → List Step → Type 0
-  Answers x xs = (x ≡ derived d h g .answer) × (xs ≡ derived d h g .steps)
-
-  refused-with : (n : ℕ) → lowest (deriveConditions (rowsOf d) h g) ≡ n → (n ≡ 0 → ⊥) → Answers (Refused n) []
+  refused-with : (n : ℕ) → lowest (deriveConditions k h g) ≡ n → (n ≡ 0 → ⊥) → derived k h g ≡ derivedBy n []
   refused-with zero e z = absurd (z refl)
-  refused-with (suc n) e z = rw (by-number (suc n) e) (refl, refl)
+  refused-with (suc n) e z = by-number (suc n) e
 
-  pub refused-by-halves : (n : ℕ) → n ≡ lowest (halvesConditions (rowsOf d) h g) → (n ≡ 0 → ⊥) → Answers (Refused n) []
-  refused-by-halves n e z =
-      refused-with n (lowest-first (halvesConditions (rowsOf d) h g) (chainConditions (halvesChain (rowsOf d) h g)) (λ w. z (e ∙ w)) ∙ sym e) z
+  refused-by-halves : (n : ℕ) → n ≡ lowest (halvesConditions k h g) → (n ≡ 0 → ⊥) → derived k h g ≡ derivedBy n []
+  refused-by-halves n e z = refused-with n (lowest-first (halvesConditions k h g) (chainConditions (halvesChain k h g)) (λ w. z (e ∙ w)) ∙ sym e) z
 
-  module _ (n : ℕ) (is : n ≡ lowest (halvesConditions (rowsOf d) h g)) (ok : n ≡ 0) where
-    then-chain : lowest (deriveConditions (rowsOf d) h g) ≡ lowest (chainConditions (halvesChain (rowsOf d) h g))
-    then-chain =
-        lowest-then (halvesConditions (rowsOf d) h g) (chainConditions (halvesChain (rowsOf d) h g))
-        (quiet (halvesConditions (rowsOf d) h g) refl (sym is ∙ ok))
+  module _ (passed : lowest (halvesConditions k h g) ≡ 0) where
+    then-chain : lowest (deriveConditions k h g) ≡ lowest (chainConditions (halvesChain k h g))
+    then-chain = lowest-then (halvesConditions k h g) (chainConditions (halvesChain k h g)) (quiet (halvesConditions k h g) refl passed)
 
-    pub refused-by-chain : (k : ℕ) → halvesChain (rowsOf d) h g ≡ unchained k → (k ≡ 0 → ⊥) → Answers (Refused k) []
-    refused-by-chain k e z = refused-with k (then-chain ∙ rw e) z
+    refused-by-chain : (n : ℕ) → halvesChain k h g ≡ unchained n → (n ≡ 0 → ⊥) → derived k h g ≡ derivedBy n []
+    refused-by-chain n e z = refused-with n (then-chain ∙ rw e) z
 
-    pub accepted : (xs : List Step) → halvesChain (rowsOf d) h g ≡ chained xs → Answers (Chained (length xs)) xs
-    accepted xs e = rw (by-number 0 (then-chain ∙ rw e), e, drop-nil, append-nil) (refl, refl)
+    accepted : (xs : List Step) → halvesChain k h g ≡ chained xs → derived k h g ≡ derivedBy 0 xs
+    accepted xs e = by-number 0 (then-chain ∙ rw e) ∙ rw e
+
+-- ---- what a function that derives promises, case by case
+derived-none : (l m : List ℕ) (x : Derived) (n : ℕ) → (n ≡ 0 → ⊥) → x ≡ derivedBy n [] → m ≡ l → DerivedIn l m x (Refused n)
+derived-none l m x zero z e same = absurd (z refl)
+derived-none l m x (suc n) z e same = rw e (record { answer = refl; steps = steps-none m; list = same ∙ sym (noted-none l) })
+
+module _ (l : List ℕ) (k : Lookups) (h g : Half) where
+  pub derives-misfit : (length l ≡ stepNumbers → ⊥) → Derives l l k h g (Refused 3)
+  derives-misfit z = derived-none l l (derivedInto l k h g) 3 (λ e. impossible (cc)) (derived-misfit l k h g z) refl
+
+  module _ (fits : length l ≡ stepNumbers) where
+    pub derives-halves : (n : ℕ) → n ≡ lowest (halvesConditions k h g) → (n ≡ 0 → ⊥) → Derives l l k h g (Refused n)
+    derives-halves n e z = derived-none l l (derivedInto l k h g) n z (derived-fits l k h g fits ∙ refused-by-halves k h g n e z) refl
+
+    module _ (passed : lowest (halvesConditions k h g) ≡ 0) (m : List ℕ) (r : Found) (f : Finds l m k (h .security) (h .account) (g .account) r) where
+      chain-is : halvesChain k h g ≡ chainInto l k (h .security) (h .account) (g .account)
+      chain-is = sym (chain-fits l k (h .security) (h .account) (g .account) fits)
+
+      pub derives-refused : (r .refusal ≡ 0 → ⊥) → Derives l m k h g (Refused (r .refusal))
+      derives-refused z =
+          let t = found-refused f z in
+          derived-none l m (derivedInto l k h g) (r .refusal) z
+          (derived-fits l k h g fits ∙ refused-by-chain k h g passed (r .refusal) (chain-is ∙ t .0) z)
+          (t .1)
+
+      pub derives-chained : r .refusal ≡ 0 → Derives l m k h g (Chained (r .count))
+      derives-chained z =
+          let xs = stepsIn m (r .count) in
+          rw (derived-fits l k h g fits ∙ accepted k h g passed xs (chain-is ∙ found-chained f z))
+          (record {
+            answer = ap Chained (steps-counted m (r .count));
+            steps = refl;
+            list = f .list ∙ ap (λ (ys : List Step). noted ys l) (sym (f .steps));
+          })
+
+-- ---- the rules' call is the derivation over what its directory answers
+-- a derivation's outcome on a store, with the step list that the call is lent
+abbrev pub outcomeOf : Store → List Step → Derived → Outcome
+outcomeOf st lent x = record { answer = x .answer; store = st; steps = written (x .steps) lent }
+
+module _ (st : Store) (h g : Half) (lent : List Step) where
+  by-cases : (n : ℕ) → outcome n (derive h g lent) st ≡ outcomeOf st lent (derivedBy n (stepsOf (halvesChain (ask (rowsOf (st .directory))) h g)))
+  by-cases zero = refl
+  by-cases (suc n) = refl
+
+  pub core-derives : core (derive h g lent) st ≡ outcomeOf st lent (derived (ask (rowsOf (st .directory))) h g)
+  unfolding core derived
+  core-derives = by-cases (lowest (deriveConditions (ask (rowsOf (st .directory))) h g))

@@ -1,9 +1,6 @@
-pub mod Paths
-pub mod Walking
-pub mod Routing
+pub mod StepList
 pub mod Climbing
-pub mod Linking
-pub mod Deriving
-pub mod Alike
-pub mod IndexedWalks
 pub mod Putting
+pub mod Linking
+pub mod Ranges
+pub mod Deriving

@@ -1,84 +1,58 @@
--- Steps put into a lent list of numbers: a side turned step by step, and a chain found, whose steps the list holds.
-use Prim.Native.Nat.{ℕ, zero, suc, _-_, _<_}
-use mathlib.Core.Path.{_≡_, refl, ap, _∙_}
-use mathlib.Core.Bool.{true, false, _&&_}
-use mathlib.Core.List.{List, [], _∷_, _++_, append-nil, append-assoc}
-use native.Mathlib.Numerals.{sub-one}
+-- Steps put into a list of numbers one behind the other, and a side turned step by step.
+use Prim.Native.Nat.{ℕ, zero, suc, _+_, _-_, _<_}
+use mathlib.Core.Path.{_≡_, sym}
+use mathlib.Core.List.{List, [], _∷_, _++_, append-nil, append-assoc, reverse-append, map-append}
 use native.Mathlib.Omega.{arith}
-use lib.ListN.{length, length-append}
-use Rattle.rules.specs.declared.Directory.{Directory}
-use Rattle.rules.specs.declared.Pair.{Pair}
-use Rattle.rules.specs.declared.Link.{Link}
+use native.Mathlib.Numerals.{add-one, sub-one}
 use Rattle.rules.specs.declared.Step.{Step}
-use Rattle.rules.specs.Chain.{Chain, chained, unchained, chainBy, stepsOf, climb, topSteps, lastOf, along, flip, turned}
-use Rattle.rules.proofs.Basics.{and-both}
-use Rattle.index.specs.Index.{Indexed}
-use Rattle.index.specs.Steps.{stepAt, stepsIn}
-use Rattle.chain.specs.Sides.{named}
-use Rattle.chain.specs.Routes.{routeOf}
-use Rattle.chain.specs.Indexed.{climbIn}
-use Rattle.chain.specs.declared.routes.RouteFound.{RouteFound}
-use Rattle.chain.specs.declared.indexed.steps.Reached.{Reached}
-use Rattle.chain.proofs.Climbing.{turned-last}
-use Rattle.chain.proofs.Linking.{not-linked, along-refused}
-use Rattle.chain.proofs.Deriving.{by-refused}
+use Rattle.rules.specs.Chain.{stepLimit, flip, turned}
+use Rattle.chain.specs.StepList.{stepAt, stepsIn, withStep}
+use Rattle.chain.specs.Steps.{Adds}
+use Rattle.chain.proofs.StepList.{holds-more, step-small}
 
--- two facts of each directory indexed, beside others, as a contract's clauses have them
-pub found : {ix : List ℕ} {P C : Type 0} {A B : Directory → Type 0} → ((d : Directory) → Indexed ix d → P → A d × B d) → C
-    → ((d : Directory) → Indexed ix d → P → A d) × (((d : Directory) → Indexed ix d → P → B d) × C)
-found f z = (λ d h k. f d h k .0, (λ d h k. f d h k .1, z))
+pub adds-none : (k : List ℕ) (n : ℕ) → Adds k n [] k n
+adds-none k n l xs size h = rw append-nil h
 
--- ---- the first n steps of a list
-pub steps-none : (b : List ℕ) → stepsIn b 0 ≡ []
-unfolding stepsIn
-steps-none b = refl
+-- one more behind, and one more in front
+pub adds-more : (k m m' : List ℕ) (n i : ℕ) (ys : List Step) (x : Step) → i < stepLimit → x .csd < 256 → m' ≡ withStep m i x
+    → Adds k n ys m i → Adds k n (ys ++ (x ∷ [])) m' (i + 1)
+adds-more k m m' n i ys x room small e a l xs size h = rw (e, ← append-assoc) (holds-more size room x small (a l xs size h))
 
-pub steps-counted : (b : List ℕ) (n : ℕ) → n ≡ length (stepsIn b n)
-unfolding stepsIn
-steps-counted b zero = refl
-steps-counted b (suc n) = rw length-append (omega (arith, steps-counted b n))
+adds-first : (k k' m : List ℕ) (n i : ℕ) (ys : List Step) (x : Step) → n < stepLimit → x .csd < 256 → k' ≡ withStep k n x
+    → Adds k' (n + 1) ys m i → Adds k n (x ∷ ys) m i
+adds-first k k' m n i ys x room small e a l xs size h =
+    rw append-assoc at (a l (xs ++ (x ∷ [])) size (rw e (holds-more size room x small h)))
 
--- ---- the steps of a side turned, put behind others one by one: ys has those passed, i are left, and xs has all
-module _ (side : List ℕ) (xs : List Step) where
-  abbrev pub Turning : ℕ → List Step → Type 0
-  Turning i ys = ys ++ turned (stepsIn side i) ≡ xs
-
-  pub turns-one : (i : ℕ) (ys zs : List Step) (x : Step) → 0 < i → Turning i ys → x ≡ stepAt side (i - 1) → zs ≡ ys ++ (flip x ∷ []) → Turning (i - 1) zs
+-- ---- the first i steps of a side, put behind none
+module _ (side k : List ℕ) where
+  pub side-starts : Adds k 0 (stepsIn side 0) k 0
   unfolding stepsIn
-  turns-one zero ys zs x p inv e z = absurd (omega arith)
-  turns-one (suc i) ys zs x p inv e z = rw (z, e, sub-one, append-assoc) (rw turned-last at inv)
+  side-starts = adds-none k 0
 
-  pub turns-none : (i : ℕ) (ys : List Step) → i ≡ 0 → Turning i ys → ys ≡ xs
-  unfolding turned stepsIn
-  turns-none i ys e inv = rw (e, append-nil) at inv
+  pub side-goes-on : (m m' : List ℕ) (i : ℕ) → i < stepLimit → m' ≡ withStep m i (stepAt side i) → Adds k 0 (stepsIn side i) m i
+      → Adds k 0 (stepsIn side (i + 1)) m' (i + 1)
+  unfolding stepsIn
+  side-goes-on m m' i room e a = rw (add-one i) (rw (add-one i) at (adds-more k m m' 0 i (stepsIn side i) (stepAt side i) room (step-small side i) e a))
 
--- ---- what a contract says of a chain found, its number and the steps in the list
-abbrev pub Holds : Chain → ℕ → List Step → Type 0
-Holds x n ss = (chainBy n ss ≡ x) × (ss ≡ stepsOf x)
+turned-last : (xs : List Step) (x : Step) → turned (xs ++ (x ∷ [])) ≡ flip x ∷ turned xs
+unfolding turned
+turned-last xs x = rw (map-append, reverse-append)
 
--- ---- along a route
-module _ (ps : List Pair) (ls : List Link) (s a b : ℕ) (x : RouteFound) where
-  pub holds-refusal : (x .refusal ≡ 0 → ⊥) → (l : List ℕ) → Holds (along ps ls s a b (routeOf x)) (x .refusal) (stepsIn l 0)
-  holds-refusal z l = rw (along-refused ps ls s a b x z) (by-refused (x .refusal) (stepsIn l 0) z, steps-none l)
+-- ---- the steps of a side from its top down, put behind the first n of k: i are left where m holds j steps
+module _ (side k : List ℕ) (n left : ℕ) where
+  abbrev pub Turning : ℕ → List ℕ → ℕ → Type 0
+  Turning i m j = (end : List ℕ) (e : ℕ) → Adds m j (turned (stepsIn side i)) end e → Adds k n (turned (stepsIn side left)) end e
 
-  module _ (z : x .refusal ≡ 0) (u v : Reached) (k m : List ℕ)
-      (up : climbIn u k ≡ climb ps (named (x .delivering)) a) (down : climbIn v m ≡ climb ps (named (x .receiving)) b) where
-    abbrev top : ℕ → ℕ → List Step
-    top g h = topSteps ls s (x .join) (lastOf (named (x .delivering))) (lastOf (named (x .receiving))) g h
+  pub turns-one : (i j : ℕ) (m m' : List ℕ) (x : Step) → 0 < i → j < stepLimit → x ≡ stepAt side (i - 1) → m' ≡ withStep m j (flip x)
+      → Turning i m j → Turning (i - 1) m' (j + 1)
+  unfolding stepsIn
+  turns-one zero j m m' x p room e z inv = absurd (omega arith)
+  turns-one (suc i) j m m' x p room e z inv =
+      let same : stepAt side i ≡ x = rw sub-one at (sym e) in
+      λ end f a.
+      inv end f
+      (rw (turned-last, same) (adds-first m m' end j f (turned (stepsIn side i)) (flip x) room (rw (← same) (step-small side i)) z (rw sub-one at a)))
 
-    unpaired-is : (u .paired && v .paired) ≡ false → along ps ls s a b (routeOf x) ≡ unchained 18
-    unpaired-is e = rw (z, ← up, ← down) (not-linked top (u .paired) (v .paired) (stepsIn k (u .count)) (stepsIn m (v .count)) (u .account) (v .account) e)
-
-    pub holds-unpaired : (u .paired && v .paired) ≡ false → (l : List ℕ) → Holds (along ps ls s a b (routeOf x)) 18 (stepsIn l 0)
-    holds-unpaired e l = rw (unpaired-is e) (refl, steps-none l)
-
-    paired-is : (u .paired && v .paired) ≡ true
-        → along ps ls s a b (routeOf x) ≡ chained (stepsIn k (u .count) ++ (top (u .account) (v .account) ++ turned (stepsIn m (v .count))))
-    paired-is e = let t = and-both (u .paired) (v .paired) e in rw (z, ← up, ← down, t .0, t .1)
-
-    module _ (e : (u .paired && v .paired) ≡ true) (i j : ℕ) (last-up : i ≡ lastOf (named (x .delivering))) (last-down : j ≡ lastOf (named (x .receiving))) where
-      pub holds-steps : (ts ss : List Step) → ts ≡ stepsIn k (u .count) ++ topSteps ls s (x .join) i j (u .account) (v .account)
-          → ss ≡ ts ++ turned (stepsIn m (v .count)) → Holds (along ps ls s a b (routeOf x)) 0 ss
-      holds-steps ts ss f g =
-          let h : ss ≡ stepsIn k (u .count) ++ (top (u .account) (v .account) ++ turned (stepsIn m (v .count))) = g ∙ rw (f, last-up, last-down, append-assoc) in
-          rw (paired-is e) (ap chained h, h)
+  pub turns-none : (i j : ℕ) (m : List ℕ) → i ≡ 0 → Turning i m j → Adds k n (turned (stepsIn side left)) m j
+  unfolding stepsIn turned
+  turns-none i j m e inv = inv m j (rw e (adds-none m j))

@@ -1,7 +1,3 @@
-pub mod Sides
-pub mod Ends
-pub mod Walks
-pub mod Routes
+pub mod StepList
 pub mod Steps
 pub mod Derivation
-pub mod Indexed

@@ -1,85 +1,76 @@
-// The steps of a chain: each side climbed from its account, what stands between the sides, and the receiving side turned round.
-use crate::routes::RouteFound;
-use crate::sides::SIDE;
-use crate::sides::Side;
-use crate::sides::last_of;
-use directory::links::LinkFound;
-use directory::links::issuer_link;
-use directory::pairs::PairFound;
-use directory::pairs::pair_of;
-use directory::rows::NO_ACCOUNT;
-use rules::ChainFound;
+// The steps of a chain along a route: each side is climbed from its account into a list of its own, and only when both have all their pairs are the
+// delivering side, what stands between the sides, and the receiving side turned round put into the lent list.
+use crate::step_list::STEP_NUMBERS;
+use crate::step_list::put_step;
+use crate::step_list::step_at;
+use index::lookups::PairFound;
+use index::lookups::issuance_of;
+use index::lookups::pair_of;
+use index::places::INDEX;
 use rules::Join;
-use rules::LinkTable;
-use rules::PairTable;
-use rules::STEPS;
+use rules::SIDE;
 use rules::Step;
-use rules::Steps;
+use walks::routes::RouteFound;
+use walks::sides::Side;
+use walks::sides::last_of;
 ghost use mathlib.Core.Path.{_≡_};
-ghost use mathlib.Core.List.{[], _∷_, _++_};
 ghost use Prim.Native.Nat.{_+_, _≤_, _<_};
-ghost use Rattle.rules.specs.Directory.{pairRows, linkRows};
-ghost use Rattle.rules.specs.Chain.{climb, issuance, topSteps, turned, along, stepRows, stepsOf, chainIn, stepLimit};
-ghost use Rattle.chain.specs.Sides.{named};
-ghost use Rattle.chain.specs.Routes.{routeOf};
-ghost use Rattle.chain.specs.Steps.{climbOf};
+ghost use lib.ListN.{length};
+ghost use Rattle.rules.specs.Walks.{sideLimit};
+ghost use Rattle.rules.specs.Chain.{climb, topSteps, turned, along, stepLimit};
+ghost use Rattle.index.specs.Asked.{asked};
+ghost use Rattle.walks.specs.Sides.{named};
+ghost use Rattle.walks.specs.Routes.{routeOf};
+ghost use Rattle.chain.specs.StepList.{stepNumbers, stepsIn};
+ghost use Rattle.chain.specs.Steps.{climbIn, Adds, FoundIn};
 
-// One side climbed: whether every pair is entered, a step for each CSD but the last, and the account that stands for the side in it.
-pub struct Climbed {
+// One side climbed: whether every pair is entered, how many steps were put, and the account that stands for the side in its last CSD.
+pub struct Reached {
     pub paired: bool,
-    pub steps: Steps,
+    pub count: usize,
     pub account: u16,
 }
 
-pub fn no_steps() -> Steps
-    ensures { λ r. ⌜ r .count ≡ 0 ⌝ }
-{
-    Steps {
-        count: 0,
-        rows: [Step {
-            csd: 0,
-            debited: 0,
-            credited: 0,
-        }; STEPS],
-    }
+// The number that refuses a chain, 0 where there is one, and how many steps it has.
+pub struct Found {
+    pub refusal: u8,
+    pub count: usize,
 }
 
-fn push(steps: Steps, step: Step) -> Steps
-    requires { ⌜ steps .count < stepLimit ⌝ }
-    ensures { λ r. ⌜ (stepRows r ≡ stepRows steps ++ (step ∷ [])) × (r .count ≡ steps .count + 1) ⌝ }
-{
-    let at = steps.count;
-    let mut more = steps;
-    more.rows[at] = step;
-    more.count = at + 1;
-    more
-}
-
-fn climb_side(pairs: PairTable, side: Side, account: u16) -> Climbed
-    ensures { λ r. ⌜ (climbOf r ≡ climb (pairRows pairs) (named side) account) × (r .steps .count ≤ 7) ⌝ }
+// The steps of a side from its account up, put at the front of the list.
+fn climb_side(
+    index: &[u16; INDEX],
+    side: Side,
+    account: u16,
+    steps: &mut [u16; STEP_NUMBERS],
+) -> Reached
+    requires { ⌜ length (now steps) ≡ stepNumbers ⌝ }
+    ensures climbed { λ r. ⌜ climbIn r (now (steps .exit)) ≡ climb (asked (now (index .entry))) (named side) account ⌝ }
+    ensures few { λ r. ⌜ r .count < sideLimit ⌝ }
+    ensures same { λ r. ⌜ length (now (steps .exit)) ≡ stepNumbers ⌝ }
 {
     let csds = side.csds;
     let mut at = account;
-    let mut steps = no_steps();
     let mut i: usize = 0;
     while i + 1 < SIDE {
         if side.count <= i + 1 {
-            return Climbed {
+            return Reached {
                 paired: true,
-                steps,
+                count: i,
                 account: at,
             };
         }
         let csd = csds[i];
-        let PairFound::Row(pair) = pair_of(pairs, csd, csds[i + 1]) else {
-            return Climbed {
+        let PairFound::Row(pair) = pair_of(index, csd, csds[i + 1]) else {
+            return Reached {
                 paired: false,
-                steps,
+                count: i,
                 account: at,
             };
         };
-        steps = push(
+        put_step(
             steps,
+            i,
             Step {
                 csd,
                 debited: at,
@@ -89,135 +80,151 @@ fn climb_side(pairs: PairTable, side: Side, account: u16) -> Climbed
         at = pair.omnibus;
         i += 1;
     }
-    Climbed {
+    Reached {
         paired: true,
-        steps,
+        count: i,
         account: at,
     }
 }
 
-// The issuance account of a CSD's issuer link, hex FFFF where it has none.
-pub fn issuance_of(links: LinkTable, security: u8, csd: u8) -> u16
-    ensures { λ r. ⌜ r ≡ issuance (linkRows links) security csd ⌝ }
+// The first `count` steps of the delivering side, put at the front of the list.
+fn put_side(steps: &mut [u16], side: &[u16; STEP_NUMBERS], count: usize)
+    requires { ⌜ count < sideLimit ⌝ }
+    ensures { λ _. ⌜ Adds (now (steps .entry)) 0 (stepsIn (now (side .entry)) count) (now (steps .exit)) count ⌝ }
 {
-    match issuer_link(links, security, csd) {
-        LinkFound::Row(link) => link.account,
-        LinkFound::Missing => NO_ACCOUNT,
+    let mut i: usize = 0;
+    while i < count {
+        put_step(steps, i, step_at(side, i));
+        i += 1;
     }
 }
 
-// What stands between the sides, whose last CSDs are `from` and `to`, put behind the steps of the delivering side.
+// What stands between the sides, whose last CSDs are `from` and `to`, put behind the first `count` steps. The answer is how many steps there are then.
 fn add_top(
-    links: LinkTable,
+    index: &[u16; INDEX],
     security: u8,
     join: Join,
     from: u8,
     to: u8,
     debited: u16,
     credited: u16,
-    steps: Steps,
-) -> Steps
-    requires { ⌜ steps .count ≤ 7 ⌝ }
-    ensures { λ r. ⌜ (stepRows r ≡ stepRows steps ++ topSteps (linkRows links) security join from to debited credited) × (r .count ≤ 9) ⌝ }
+    steps: &mut [u16],
+    count: usize,
+) -> usize
+    requires { ⌜ count < sideLimit ⌝ }
+    ensures { λ r. ⌜ Adds (now (steps .entry)) count (topSteps (asked (now (index .entry))) security join from to debited credited) (now (steps .exit)) r ⌝ }
+    ensures { λ r. ⌜ r ≤ sideLimit + 1 ⌝ }
 {
     match join {
-        Join::Meeting => push(
-            steps,
-            Step {
-                csd: from,
-                debited,
-                credited,
-            },
-        ),
-        Join::Issuers => {
-            let taken = issuance_of(links, security, from);
-            let given = issuance_of(links, security, to);
-            let more = push(
+        Join::Meeting => {
+            put_step(
                 steps,
+                count,
+                Step {
+                    csd: from,
+                    debited,
+                    credited,
+                },
+            );
+            count + 1
+        }
+        Join::Issuers => {
+            let taken = issuance_of(index, security, from);
+            let given = issuance_of(index, security, to);
+            put_step(
+                steps,
+                count,
                 Step {
                     csd: from,
                     debited,
                     credited: taken,
                 },
             );
-            push(
-                more,
+            put_step(
+                steps,
+                count + 1,
                 Step {
                     csd: to,
                     debited: given,
                     credited,
                 },
-            )
+            );
+            count + 2
         }
-        Join::Externals => steps,
+        Join::Externals => count,
     }
 }
 
-// The steps of the receiving side from its top down: what is debited for one side is credited for the other.
-fn add_turned(steps: Steps, side: Steps) -> Steps
-    requires { ⌜ (steps .count ≤ 9) × (side .count ≤ 7) ⌝ }
-    ensures { λ r. ⌜ (stepRows r ≡ stepRows steps ++ turned (stepRows side)) × (r .count ≤ stepLimit) ⌝ }
+// The first `left` steps of the receiving side from its top down, put behind the first `count` steps: what is debited for one side is credited for the
+// other.
+fn add_turned(steps: &mut [u16], count: usize, side: &[u16; STEP_NUMBERS], left: usize) -> usize
+    requires { ⌜ (count ≤ sideLimit + 1) × (left < sideLimit) ⌝ }
+    ensures { λ r. ⌜ Adds (now (steps .entry)) count (turned (stepsIn (now (side .entry)) left)) (now (steps .exit)) r ⌝ }
+    ensures { λ r. ⌜ r ≤ stepLimit ⌝ }
 {
-    let mut more = steps;
-    let mut i = side.count;
+    let mut n = count;
+    let mut i = left;
     while 0 < i {
         i -= 1;
-        let step = side.rows[i];
-        more = push(
-            more,
+        let step = step_at(side, i);
+        put_step(
+            steps,
+            n,
             Step {
                 csd: step.csd,
                 debited: step.credited,
                 credited: step.debited,
             },
         );
+        n += 1;
     }
-    more
-}
-
-// No step, and the number that refuses the chain.
-pub fn unchained(refusal: u8) -> ChainFound
-    ensures { λ r. ⌜ (r .refusal ≡ refusal) × (r .steps .count ≡ 0) ⌝ }
-{
-    let steps = no_steps();
-    ChainFound { refusal, steps }
+    n
 }
 
 // The steps along a route from the delivering account to the receiving one, or the refusal: the route's, or 18.
-pub fn steps_along(
-    pairs: PairTable,
-    links: LinkTable,
+pub(crate) fn steps_along(
+    index: &[u16; INDEX],
     security: u8,
     delivering: u16,
     receiving: u16,
     route: RouteFound,
-) -> ChainFound
-    ensures chain { λ r. ⌜ chainIn r ≡ along (pairRows pairs) (linkRows links) security delivering receiving (routeOf route) ⌝ }
-    ensures steps { λ r. ⌜ stepRows (r .steps) ≡ stepsOf (along (pairRows pairs) (linkRows links) security delivering receiving (routeOf route)) ⌝ }
-    ensures short { λ r. ⌜ r .steps .count ≤ stepLimit ⌝ }
+    steps: &mut [u16],
+) -> Found
+    requires { ⌜ length (now steps) ≡ stepNumbers ⌝ }
+    ensures { λ r. ⌜ FoundIn (now (steps .entry)) (now (steps .exit)) (along (asked (now (index .entry))) security delivering receiving (routeOf route)) r ⌝ }
 {
     if route.refusal != 0 {
-        return unchained(route.refusal);
+        return Found {
+            refusal: route.refusal,
+            count: 0,
+        };
     }
-    let up = climb_side(pairs, route.delivering, delivering);
-    let down = climb_side(pairs, route.receiving, receiving);
+    let mut upwards = [0u16; STEP_NUMBERS];
+    let mut downwards = [0u16; STEP_NUMBERS];
+    let up = climb_side(index, route.delivering, delivering, &mut upwards);
+    let down = climb_side(index, route.receiving, receiving, &mut downwards);
     let paired = up.paired & down.paired;
     if !paired {
-        return unchained(18);
+        return Found {
+            refusal: 18,
+            count: 0,
+        };
     }
     let join = route.join;
     let from = last_of(route.delivering);
     let to = last_of(route.receiving);
+    put_side(steps, &upwards, up.count);
     let top = add_top(
-        links,
+        index,
         security,
         join,
         from,
         to,
         up.account,
         down.account,
-        up.steps,
+        steps,
+        up.count,
     );
-    let steps = add_turned(top, down.steps);
-    ChainFound { refusal: 0, steps }
+    let count = add_turned(steps, top, &downwards, down.count);
+    Found { refusal: 0, count }
 }

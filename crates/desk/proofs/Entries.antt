@@ -1,32 +1,55 @@
--- An entry on an unsound directory is 4, and on a sound one the directory's own.
+-- An entry by what is kept of its directory: 4 on an unsound one; else its row's refusal, or the row is added.
 use Prim.Native.Nat.{ℕ, zero, suc}
 use mathlib.Core.Path.{_≡_, refl, sym, ap, _∙_}
-use mathlib.Core.Bool.{true, false}
+use mathlib.Core.Logic.{_≢_}
+use mathlib.Core.Bool.{false}
 use mathlib.Core.List.{[]}
-use native.Mathlib.Omega.{arith}
-use Rattle.rules.specs.declared.Answer.the-variants.{Refused}
+use Rattle.rules.specs.declared.Answer.the-variants.{Accepted, Refused}
 use Rattle.rules.specs.declared.Directory.{Directory}
 use Rattle.rules.specs.declared.Entered.{Entered}
 use Rattle.rules.specs.Tests.{lowest}
-use Rattle.rules.specs.Directory.{Row, rowsOf, rowConditions, enteredBy, enterRow, sound}
-use Rattle.rules.specs.Calls.{Outcome, enter, outcome, misfit, core}
-use Rattle.desk.specs.Outcomes.{holding, enteredOn}
-use Rattle.desk.proofs.Early.{early-unsound, early-none, early-refused, early-passed}
+use Rattle.rules.specs.Directory.{rowsOf}
+use Rattle.rules.specs.Entries.{Row, rowConditions, addRow}
+use Rattle.rules.specs.Calls.{Store, Outcome, enter, outcome, misfit, core}
+use Rattle.rules.proofs.Tables.{Sized, Room, room}
+use Rattle.index.specs.Index.{WholeTables}
+use Rattle.entries.specs.Entered.{Kept, refusalIn}
+use Rattle.entries.proofs.Refusing.{refusal-is}
+use Rattle.desk.specs.Outcomes.{holding, enteredOn, Admits}
+use Rattle.desk.proofs.Before.{early-refused, early-passed}
+
+sized : (d : Directory) → WholeTables d → Sized d
+sized d w = record { csds = w .csds; securities = w .securities; accounts = w .accounts; pairs = w .pairs; links = w .links }
 
 module _ (d : Directory) (x : Row) where
   abbrev said : Outcome → Entered
   said o = record { answer = o .answer; directory = o .store .directory }
 
-  pub entered-unsound : sound d ≡ false → record { answer = Refused 4; directory = d } ≡ enteredOn d x
-  unfolding misfit
-  entered-unsound e =
-      sym (ap said (early-refused (enter x) (holding d [] []) 4 (early-unsound false d refl e) (λ z. omega arith)))
+  abbrev handed : Store
+  handed = holding d [] []
 
-  by-number : (n : ℕ) → enteredBy n x d ≡ said (outcome n (enter x) (holding d [] []))
-  by-number zero = refl
-  by-number (suc n) = refl
+  refused-by : (m : ℕ) → m ≢ 0 → record { answer = Refused m; directory = d } ≡ said (outcome m (enter x) handed)
+  refused-by zero ne = absurd (ne refl)
+  refused-by (suc m) ne = refl
 
-  pub entered-sound : (r : Entered) → r ≡ enterRow x d → sound d ≡ true → r ≡ enteredOn d x
-  unfolding misfit core enterRow
-  entered-sound r e s =
-      e ∙ by-number (lowest (rowConditions (rowsOf d) x)) ∙ sym (ap said (early-passed (enter x) (holding d [] []) 0 (early-none false d refl s) refl))
+  module _ (n : ℕ) (k : Kept) (admits : Admits false d n k) where
+    pub unsound : n ≢ 0 → record { answer = Refused n; directory = d } ≡ enteredOn d x
+    unfolding misfit
+    unsound ne = sym (ap said (early-refused (enter x) handed n (admits .number) ne))
+
+    module _ (z : n ≡ 0) (m : ℕ) (judged : m ≡ refusalIn k x) where
+      number : m ≡ lowest (rowConditions (rowsOf d) x)
+      number = judged ∙ refusal-is k d x (admits .keeps z)
+
+      passed : said (outcome m (enter x) handed) ≡ enteredOn d x
+      unfolding misfit core
+      passed = ap (λ (i : ℕ). said (outcome i (enter x) handed)) number ∙ sym (ap said (early-passed (enter x) handed n (admits .number) z))
+
+      pub refuses : m ≢ 0 → record { answer = Refused m; directory = d } ≡ enteredOn d x
+      refuses ne = refused-by m ne ∙ passed
+
+      pub roomy : m ≡ 0 → Room x d
+      roomy e = room x d (sized d (admits .keeps z .indexed .whole)) (sym number ∙ e)
+
+      pub accepts : m ≡ 0 → record { answer = Accepted; directory = addRow x d } ≡ enteredOn d x
+      accepts e = rw (← passed, e)

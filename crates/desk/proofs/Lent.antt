@@ -12,12 +12,14 @@ use native.Mathlib.Omega.{arith}
 use Rattle.rules.specs.declared.Directory.{Directory}
 use Rattle.rules.specs.declared.Half.{Half}
 use Rattle.rules.specs.declared.Step.{Step}
+use Rattle.rules.specs.declared.Answer.{Answer}
 use Rattle.rules.specs.declared.Reply.{Reply}
 use Rattle.rules.specs.Tests.{lowest}
 use Rattle.rules.specs.Directory.{rowsOf}
+use Rattle.rules.specs.Lookups.{ask}
 use Rattle.rules.specs.Chain.{Chain, chained, unchained, stepsOf, stepRows, stepLimit, step}
 use Rattle.rules.specs.Booking.{positionCount, cashCount}
-use Rattle.rules.specs.Calls.{Store, Call, settle, derive, Outcome, outcome, desk, misfit, deskConditions, halvesChain, written, countOf}
+use Rattle.rules.specs.Calls.{Store, Call, settle, derive, Outcome, outcome, core, coreConditions, desk, misfit, deskConditions, halvesChain, written, countOf}
 use Rattle.rules.proofs.Basics.{or-none, ltb-not}
 use Rattle.rules.proofs.ChainSize.{chain-few}
 use Rattle.desk.specs.Outcomes.{holding, settlementOn, derivationOn, blanks, byValue, replyOf}
@@ -47,28 +49,28 @@ within a b = omega arith
 
 module _ (st : Store) (h g : Half) where
   abbrev found : List Step
-  found = stepsOf (halvesChain (rowsOf (st .directory)) h g)
+  found = stepsOf (halvesChain (ask (rowsOf (st .directory))) h g)
 
   -- the chain, and no step where the call is refused
-  abbrev pub givenSteps : ℕ → List Step
+  abbrev givenSteps : ℕ → List Step
   givenSteps zero = found
   givenSteps (suc n) = []
 
   -- ---- an outcome by the refusal's number
 
-  pub same-answer : (l : Lender) (n : ℕ) (xs ys : List Step) → outcome n (lending l h g xs) st .answer ≡ outcome n (lending l h g ys) st .answer
+  same-answer : (l : Lender) (n : ℕ) (xs ys : List Step) → outcome n (lending l h g xs) st .answer ≡ outcome n (lending l h g ys) st .answer
   same-answer derives zero xs ys = refl
   same-answer derives (suc n) xs ys = refl
   same-answer settles zero xs ys = refl
   same-answer settles (suc n) xs ys = refl
 
-  pub same-store : (l : Lender) (n : ℕ) (xs ys : List Step) → outcome n (lending l h g xs) st .store ≡ outcome n (lending l h g ys) st .store
+  same-store : (l : Lender) (n : ℕ) (xs ys : List Step) → outcome n (lending l h g xs) st .store ≡ outcome n (lending l h g ys) st .store
   same-store derives zero xs ys = refl
   same-store derives (suc n) xs ys = refl
   same-store settles zero xs ys = refl
   same-store settles (suc n) xs ys = refl
 
-  pub steps-written : (l : Lender) (n : ℕ) (xs : List Step) → outcome n (lending l h g xs) st .steps ≡ written (givenSteps n) xs
+  steps-written : (l : Lender) (n : ℕ) (xs : List Step) → outcome n (lending l h g xs) st .steps ≡ written (givenSteps n) xs
   steps-written derives zero xs = refl
   steps-written derives (suc n) xs = refl
   steps-written settles zero xs = refl
@@ -80,14 +82,14 @@ module _ (st : Store) (h g : Half) where
   steps-counted settles zero xs = refl
   steps-counted settles (suc n) xs = refl
 
-  pub steps-replied : (l : Lender) (n : ℕ) (xs : List Step) → replyOf (outcome n (lending l h g xs) st) .steps ≡ byValue (givenSteps n)
+  steps-replied : (l : Lender) (n : ℕ) (xs : List Step) → replyOf (outcome n (lending l h g xs) st) .steps ≡ byValue (givenSteps n)
   steps-replied l n xs =
       rw (steps-counted l n xs, steps-written l n xs) (ap byValue (take-append-seam (givenSteps n) (drop (length (givenSteps n)) xs)))
 
   -- ---- how many steps
 
   found-few : length found ≤ stepLimit
-  found-few = go (halvesChain (rowsOf (st .directory)) h g) (chain-few (rowsOf (st .directory)) (h .security) (h .account) (g .account))
+  found-few = go (halvesChain (ask (rowsOf (st .directory))) h g) (chain-few (rowsOf (st .directory)) (h .security) (h .account) (g .account))
     where
       go : (x : Chain) → ((xs : List Step) → x ≡ chained xs → length xs ≤ stepLimit) → length (stepsOf x) ≤ stepLimit
       go (chained xs) k = k xs refl
@@ -96,6 +98,13 @@ module _ (st : Store) (h g : Half) where
   given-few : (n : ℕ) → length (givenSteps n) ≤ stepLimit
   given-few zero = found-few
   given-few (suc n) = omega arith
+
+  -- so few are the steps that any answer of the core counts
+  pub core-few : (l : Lender) (lent : List Step) (r : Answer) → r ≡ core (lending l h g lent) st .answer → countOf r ≤ stepLimit
+  unfolding core
+  core-few l lent r e =
+      let n = lowest (coreConditions (lending l h g lent) st) in
+      rw (e, steps-counted l n lent) (given-few n)
 
   -- nothing is 3, so the list has room
   fits : (l : Lender) (lent : List Step) → misfit (lending l h g lent) st ≡ false → stepLimit ≤ length lent

@@ -1,7 +1,7 @@
 pub mod Stored
 pub mod Lent
-pub mod Early
+pub mod Before
+pub mod Admitted
 pub mod Logs
-pub mod Replies
 pub mod Entries
 pub mod Decided

@@ -1,127 +1,258 @@
-// The functions that others call, over a directory by value and lent lists of any length and content: 3, then 4, then the core.
-// Each answers what the rules' call answers on what it is handed. Where that is Refused, nothing lent or handed in has changed.
-use booking::moves;
-use booking::payments;
-use booking::positions::steps_in_use;
-use booking::settling::settle_core;
+// The functions that others call, over a directory by value and lent lists of any length and content: 3, then 4, for which the directory is read into an
+// index, then the very function that a stream calls. Each answers what the rules' call answers on what it is handed. Where that is Refused, nothing lent
+// or handed in has changed.
+mod early; // early.rt: 3 and 4
+mod rows; // rows.rt: a row added to its table
+mod steps; // steps.rt: steps by value, and in a lent list
+
+use crate::early::early_refusal;
+use crate::rows::with_account;
+use crate::rows::with_csd;
+use crate::rows::with_link;
+use crate::rows::with_pair;
+use crate::rows::with_security;
+use crate::steps::finish;
+use crate::steps::refused;
+use crate::steps::replied;
+use booking::moves::move_securities;
+use booking::payments::move_cash;
+use booking::settling;
 use booking::totals;
-use chain::derivation::derive_core;
-use directory::entries;
-use directory::sound::is_sound;
+use chain::derivation;
+use chain::step_list::STEP_NUMBERS;
+use entries::names::NAMES;
+use entries::refusals::account_refusal;
+use entries::refusals::csd_refusal;
+use entries::refusals::link_refusal;
+use entries::refusals::pair_refusal;
+use entries::refusals::security_refusal;
+use index::places::INDEX;
 use rules::ACCOUNTS;
 use rules::Account;
+use rules::AccountTable;
 use rules::Answer;
+use rules::BIC;
+use rules::CSDS;
 use rules::CashTotal;
 use rules::Csd;
+use rules::CsdTable;
 use rules::Directory;
 use rules::Entered;
 use rules::Half;
+use rules::ISIN;
+use rules::LINKS;
 use rules::Link;
+use rules::LinkTable;
+use rules::PAIRS;
+use rules::POSITIONS;
 use rules::Pair;
+use rules::PairTable;
 use rules::Reply;
 use rules::SECURITIES;
 use rules::STEPS;
 use rules::Security;
+use rules::SecurityTable;
 use rules::SecurityTotal;
 use rules::Step;
-use rules::Steps;
 ghost use mathlib.Core.Path.{_≡_};
-ghost use Prim.Native.Nat.{_≤_, _<_};
-ghost use lib.ListN.{length, getD};
-ghost use Rattle.rules.specs.Directory.{csdRow, securityRow, accountRow, pairRow, linkRow};
-ghost use Rattle.rules.specs.Chain.{step, stepRows, stepLimit};
+ghost use Rattle.rules.specs.Entries.{emptyDirectory, csdRow, securityRow, accountRow, pairRow, linkRow};
+ghost use Rattle.rules.specs.Chain.{stepLimit};
+ghost use Rattle.rules.specs.declared.Answer.the-variants;
 ghost use Rattle.rules.specs.Booking.{incoming, outgoing};
-ghost use Rattle.rules.specs.Calls.{written, deskSecurityTotal, deskCashTotal};
-ghost use Rattle.desk.specs.Outcomes.{early, enteredOn, movementOn, paymentOn, settlementOn, derivationOn, blanks, byValue, refusal, replyOf};
+ghost use Rattle.rules.specs.Calls.{deskSecurityTotal, deskCashTotal};
+ghost use Rattle.booking.specs.Moves.{wayOf};
+ghost use Rattle.desk.specs.Outcomes.{enteredOn, movementOn, paymentOn, settlementOn, derivationOn, blanks, replyOf};
 
-// Positions of a store: "at account × 16 + security".
-const POSITIONS: usize = ACCOUNTS * SECURITIES;
+// ---- the empty directory
 
-// ---- what comes before a core
+// What stands in a table behind its count.
+const BLANK_CSD: Csd = Csd {
+    external: 0,
+    bic: [0; BIC],
+};
 
-// 3 where a lent list does not fit, else 4 where the directory is not sound, else 0.
-fn early_refusal(misfit: bool, directory: Directory) -> u8
-    ensures { λ r. ⌜ r ≡ early misfit directory ⌝ }
+const BLANK_SECURITY: Security = Security { isin: [0; ISIN] };
+
+const BLANK_ACCOUNT: Account = Account { csd: 0, kind: 0 };
+
+const BLANK_PAIR: Pair = Pair {
+    investor: 0,
+    technical: 0,
+    mirror: 0,
+    omnibus: 0,
+};
+
+const BLANK_LINK: Link = Link {
+    security: 0,
+    kind: 0,
+    csd: 0,
+    technical: 0,
+    flag: 0,
+    account: 0,
+};
+
+// "An empty store has no row"
+pub fn empty() -> Directory
+    ensures { λ r. ⌜ r ≡ emptyDirectory ⌝ }
 {
-    if misfit {
-        return 3;
+    Directory {
+        csds: CsdTable {
+            count: 0,
+            rows: [BLANK_CSD; CSDS],
+        },
+        securities: SecurityTable {
+            count: 0,
+            rows: [BLANK_SECURITY; SECURITIES],
+        },
+        accounts: AccountTable {
+            count: 0,
+            rows: [BLANK_ACCOUNT; ACCOUNTS],
+        },
+        pairs: PairTable {
+            count: 0,
+            rows: [BLANK_PAIR; PAIRS],
+        },
+        links: LinkTable {
+            count: 0,
+            rows: [BLANK_LINK; LINKS],
+        },
     }
-    if !is_sound(directory) {
-        return 4;
-    }
-    0
 }
 
 // ---- entries: the answer, and the directory after it
+
+// The directory as it is.
+fn entry_refused(number: u8, directory: Directory) -> Entered
+    ensures { λ r. ⌜ r ≡ record { answer = the-variants.Refused number; directory = directory } ⌝ }
+{
+    Entered {
+        answer: Answer::Refused(number),
+        directory,
+    }
+}
+
+// The directory with the row.
+fn entry_accepted(next: Directory) -> Entered
+    ensures { λ r. ⌜ r ≡ record { answer = the-variants.Accepted; directory = next } ⌝ }
+{
+    Entered {
+        answer: Answer::Accepted,
+        directory: next,
+    }
+}
 
 // 01: a CSD.
 pub fn enter_csd(directory: Directory, row: Csd) -> Entered
     ensures { λ r. ⌜ r ≡ enteredOn directory (csdRow row) ⌝ }
 {
-    if !is_sound(directory) {
-        return Entered {
-            answer: Answer::Refused(4),
-            directory,
-        };
+    let mut index: [u16; INDEX] = [0; INDEX];
+    let mut names: [u8; NAMES] = [0; NAMES];
+    let number = early_refusal(false, directory, &mut index, &mut names);
+    if number != 0 {
+        return entry_refused(number, directory);
     }
-    let bic = row.bic;
-    entries::enter_csd(directory, row.external, bic)
+    let refusal = csd_refusal(&index, &names, row);
+    if refusal != 0 {
+        return entry_refused(refusal, directory);
+    }
+    entry_accepted(with_csd(directory, row))
 }
 
 // 02: a security.
 pub fn enter_security(directory: Directory, row: Security) -> Entered
     ensures { λ r. ⌜ r ≡ enteredOn directory (securityRow row) ⌝ }
 {
-    if !is_sound(directory) {
-        return Entered {
-            answer: Answer::Refused(4),
-            directory,
-        };
+    let mut index: [u16; INDEX] = [0; INDEX];
+    let mut names: [u8; NAMES] = [0; NAMES];
+    let number = early_refusal(false, directory, &mut index, &mut names);
+    if number != 0 {
+        return entry_refused(number, directory);
     }
-    let isin = row.isin;
-    entries::enter_security(directory, isin)
+    let refusal = security_refusal(&index, &names, row);
+    if refusal != 0 {
+        return entry_refused(refusal, directory);
+    }
+    entry_accepted(with_security(directory, row))
 }
 
 // 03: an account.
 pub fn enter_account(directory: Directory, row: Account) -> Entered
     ensures { λ r. ⌜ r ≡ enteredOn directory (accountRow row) ⌝ }
 {
-    if !is_sound(directory) {
-        return Entered {
-            answer: Answer::Refused(4),
-            directory,
-        };
+    let mut index: [u16; INDEX] = [0; INDEX];
+    let mut names: [u8; NAMES] = [0; NAMES];
+    let number = early_refusal(false, directory, &mut index, &mut names);
+    if number != 0 {
+        return entry_refused(number, directory);
     }
-    entries::enter_account(directory, row.csd, row.kind)
+    let refusal = account_refusal(&index, row);
+    if refusal != 0 {
+        return entry_refused(refusal, directory);
+    }
+    entry_accepted(with_account(directory, row))
 }
 
 // 04: a pair.
 pub fn enter_pair(directory: Directory, row: Pair) -> Entered
     ensures { λ r. ⌜ r ≡ enteredOn directory (pairRow row) ⌝ }
 {
-    if !is_sound(directory) {
-        return Entered {
-            answer: Answer::Refused(4),
-            directory,
-        };
+    let mut index: [u16; INDEX] = [0; INDEX];
+    let mut names: [u8; NAMES] = [0; NAMES];
+    let number = early_refusal(false, directory, &mut index, &mut names);
+    if number != 0 {
+        return entry_refused(number, directory);
     }
-    entries::enter_pair(directory, row)
+    let refusal = pair_refusal(&index, row);
+    if refusal != 0 {
+        return entry_refused(refusal, directory);
+    }
+    entry_accepted(with_pair(directory, row))
 }
 
 // 05: a link.
 pub fn enter_link(directory: Directory, row: Link) -> Entered
     ensures { λ r. ⌜ r ≡ enteredOn directory (linkRow row) ⌝ }
 {
-    if !is_sound(directory) {
-        return Entered {
-            answer: Answer::Refused(4),
-            directory,
-        };
+    let mut index: [u16; INDEX] = [0; INDEX];
+    let mut names: [u8; NAMES] = [0; NAMES];
+    let number = early_refusal(false, directory, &mut index, &mut names);
+    if number != 0 {
+        return entry_refused(number, directory);
     }
-    entries::enter_link(directory, row)
+    let refusal = link_refusal(&index, row);
+    if refusal != 0 {
+        return entry_refused(refusal, directory);
+    }
+    entry_accepted(with_link(directory, row))
 }
 
 // ---- positions and cash
+
+// A bring-in or take-out.
+fn movement(
+    directory: Directory,
+    positions: &mut [i64],
+    incoming: bool,
+    account: u16,
+    security: u8,
+    quantity: u64,
+) -> Answer
+    ensures { λ r. ⌜ (r ≡ movementOn directory (now (positions .entry)) (wayOf incoming) account security quantity .answer)
+        × (now (positions .exit) ≡ movementOn directory (now (positions .entry)) (wayOf incoming) account security quantity .store .positions) ⌝ }
+{
+    let mut index: [u16; INDEX] = [0; INDEX];
+    let mut names: [u8; NAMES] = [0; NAMES];
+    let number = early_refusal(
+        positions.len() != POSITIONS,
+        directory,
+        &mut index,
+        &mut names,
+    );
+    if number != 0 {
+        return Answer::Refused(number);
+    }
+    move_securities(&index, positions, incoming, account, security, quantity)
+}
 
 // Credits a participant account from its CSD's issuance or inter-CSD account.
 pub fn bring_in(
@@ -134,11 +265,7 @@ pub fn bring_in(
     ensures { λ r. ⌜ (r ≡ movementOn directory (now (positions .entry)) incoming account security quantity .answer)
         × (now (positions .exit) ≡ movementOn directory (now (positions .entry)) incoming account security quantity .store .positions) ⌝ }
 {
-    let number = early_refusal(positions.len() != POSITIONS, directory);
-    if number != 0 {
-        return Answer::Refused(number);
-    }
-    moves::bring_in_core(directory, positions, account, security, quantity)
+    movement(directory, positions, true, account, security, quantity)
 }
 
 // The reverse.
@@ -152,11 +279,27 @@ pub fn take_out(
     ensures { λ r. ⌜ (r ≡ movementOn directory (now (positions .entry)) outgoing account security quantity .answer)
         × (now (positions .exit) ≡ movementOn directory (now (positions .entry)) outgoing account security quantity .store .positions) ⌝ }
 {
-    let number = early_refusal(positions.len() != POSITIONS, directory);
+    movement(directory, positions, false, account, security, quantity)
+}
+
+// A pay-in or pay-out.
+fn payment(
+    directory: Directory,
+    cash: &mut [i64],
+    incoming: bool,
+    account: u16,
+    amount: u64,
+) -> Answer
+    ensures { λ r. ⌜ (r ≡ paymentOn directory (now (cash .entry)) (wayOf incoming) account amount .answer)
+        × (now (cash .exit) ≡ paymentOn directory (now (cash .entry)) (wayOf incoming) account amount .store .cash) ⌝ }
+{
+    let mut index: [u16; INDEX] = [0; INDEX];
+    let mut names: [u8; NAMES] = [0; NAMES];
+    let number = early_refusal(cash.len() != ACCOUNTS, directory, &mut index, &mut names);
     if number != 0 {
         return Answer::Refused(number);
     }
-    moves::take_out_core(directory, positions, account, security, quantity)
+    move_cash(&index, cash, incoming, account, amount)
 }
 
 // Adds to a participant account's cash.
@@ -164,11 +307,7 @@ pub fn pay_in(directory: Directory, cash: &mut [i64], account: u16, amount: u64)
     ensures { λ r. ⌜ (r ≡ paymentOn directory (now (cash .entry)) incoming account amount .answer)
         × (now (cash .exit) ≡ paymentOn directory (now (cash .entry)) incoming account amount .store .cash) ⌝ }
 {
-    let number = early_refusal(cash.len() != ACCOUNTS, directory);
-    if number != 0 {
-        return Answer::Refused(number);
-    }
-    payments::pay_in_core(directory, cash, account, amount)
+    payment(directory, cash, true, account, amount)
 }
 
 // The reverse.
@@ -176,22 +315,25 @@ pub fn pay_out(directory: Directory, cash: &mut [i64], account: u16, amount: u64
     ensures { λ r. ⌜ (r ≡ paymentOn directory (now (cash .entry)) outgoing account amount .answer)
         × (now (cash .exit) ≡ paymentOn directory (now (cash .entry)) outgoing account amount .store .cash) ⌝ }
 {
-    let number = early_refusal(cash.len() != ACCOUNTS, directory);
-    if number != 0 {
-        return Answer::Refused(number);
-    }
-    payments::pay_out_core(directory, cash, account, amount)
+    payment(directory, cash, false, account, amount)
 }
 
 // The sum of participant positions in a security.
 pub fn security_total(directory: Directory, positions: &[i64], security: u8) -> SecurityTotal
     ensures { λ r. ⌜ r ≡ deskSecurityTotal directory (now (positions .entry)) security ⌝ }
 {
-    let number = early_refusal(positions.len() != POSITIONS, directory);
+    let mut index: [u16; INDEX] = [0; INDEX];
+    let mut names: [u8; NAMES] = [0; NAMES];
+    let number = early_refusal(
+        positions.len() != POSITIONS,
+        directory,
+        &mut index,
+        &mut names,
+    );
     if number != 0 {
         return SecurityTotal::NoUnits(number);
     }
-    totals::security_total(directory, positions, security)
+    totals::security_total(&index, positions, security)
 }
 
 // The sum of all balances.
@@ -206,61 +348,19 @@ pub fn cash_total(cash: &[i64]) -> CashTotal
 
 // ---- derivation and settlement with their steps by value
 
-fn blank_rows() -> [Step; STEPS]
-    ensures { λ r. ⌜ r ≡ blanks stepLimit ⌝ }
-{
-    [Step {
-        csd: 0,
-        debited: 0,
-        credited: 0,
-    }; STEPS]
-}
-
-// A refusal has no step.
-fn refused(number: u8) -> Reply
-    ensures { λ r. ⌜ r ≡ refusal number ⌝ }
-{
-    let rows = blank_rows();
-    let steps = Steps { count: 0, rows };
-    Reply {
-        answer: Answer::Refused(number),
-        steps,
-    }
-}
-
-// The steps in use on blank rows, so that no row behind them is left open.
-fn laid_out(steps: Steps) -> Steps
-    ensures { λ r. ⌜ r ≡ byValue (stepRows steps) ⌝ }
-{
-    let n = steps_in_use(steps);
-    let mut rows = blank_rows();
-    let mut i: usize = 0;
-    while i < n {
-        let s = steps.rows[i];
-        rows[i] = s;
-        i += 1;
-    }
-    Steps { count: n, rows }
-}
-
-// What a core replied, with its steps laid out.
-fn replied(core: Reply) -> Reply
-    ensures { λ r. ⌜ r ≡ record { answer = core .answer; steps = byValue (stepRows (core .steps)) } ⌝ }
-{
-    let answer = core.answer;
-    let steps = laid_out(core.steps);
-    Reply { answer, steps }
-}
-
 // A derivation that is lent `lent` steps.
 pub fn derive_reply(directory: Directory, lent: usize, delivering: Half, receiving: Half) -> Reply
     ensures { λ r. ⌜ r ≡ replyOf (derivationOn directory (blanks lent) delivering receiving) ⌝ }
 {
-    let number = early_refusal(lent < STEPS, directory);
+    let mut index: [u16; INDEX] = [0; INDEX];
+    let mut names: [u8; NAMES] = [0; NAMES];
+    let number = early_refusal(lent < STEPS, directory, &mut index, &mut names);
     if number != 0 {
         return refused(number);
     }
-    replied(derive_core(directory, delivering, receiving))
+    let mut numbers: [u16; STEP_NUMBERS] = [0; STEP_NUMBERS];
+    let answer = derivation::derive(&index, &mut numbers, delivering, receiving);
+    replied(answer, &numbers)
 }
 
 // A settlement that is lent `lent` steps.
@@ -276,12 +376,16 @@ pub fn settle_reply(
         × (now (positions .exit) ≡ settlementOn directory (now (positions .entry)) (now (cash .entry)) (blanks lent) delivering receiving .store .positions)
         × (now (cash .exit) ≡ settlementOn directory (now (positions .entry)) (now (cash .entry)) (blanks lent) delivering receiving .store .cash) ⌝ }
 {
+    let mut index: [u16; INDEX] = [0; INDEX];
+    let mut names: [u8; NAMES] = [0; NAMES];
     let misfit = (positions.len() != POSITIONS) | ((cash.len() != ACCOUNTS) | (lent < STEPS));
-    let number = early_refusal(misfit, directory);
+    let number = early_refusal(misfit, directory, &mut index, &mut names);
     if number != 0 {
         return refused(number);
     }
-    replied(settle_core(directory, positions, cash, delivering, receiving))
+    let mut numbers: [u16; STEP_NUMBERS] = [0; STEP_NUMBERS];
+    let answer = settling::settle(&index, positions, cash, &mut numbers, delivering, receiving);
+    replied(answer, &numbers)
 }
 
 // The chain of two halves, with its steps by value: what a lent list of 16 blank steps would hold.
@@ -307,36 +411,6 @@ pub fn settle_by_value(
 }
 
 // ---- steps to a lent list
-
-fn step_at(from: Steps, i: usize) -> Step
-    requires { ⌜ i < stepLimit ⌝ }
-    ensures { λ r. ⌜ r ≡ getD (from .rows) i (step 0 0 0) ⌝ }
-{
-    from.rows[i]
-}
-
-// The steps at the start of the lent list; the rest is untouched.
-fn put_steps(steps: &mut [Step], from: Steps)
-    requires { ⌜ (from .count ≤ stepLimit) × (from .count ≤ length (now steps)) ⌝ }
-    ensures { λ _. ⌜ now (steps .exit) ≡ written (stepRows from) (now (steps .entry)) ⌝ }
-{
-    let k = from.count;
-    let mut i: usize = 0;
-    while i < k {
-        let s = step_at(from, i);
-        steps[i] = s;
-        i += 1;
-    }
-}
-
-// The end of a derivation or settlement, apart so that the directory's types are not in sight where fields are read.
-fn finish(steps: &mut [Step], reply: Reply) -> Answer
-    requires { ⌜ (reply .steps .count ≤ stepLimit) × (reply .steps .count ≤ length (now steps)) ⌝ }
-    ensures { λ r. ⌜ (r ≡ reply .answer) × (now (steps .exit) ≡ written (stepRows (reply .steps)) (now (steps .entry))) ⌝ }
-{
-    put_steps(steps, reply.steps);
-    reply.answer
-}
 
 // Derives the chain of two halves and writes its K steps to the start of the lent list.
 pub fn derive(directory: Directory, steps: &mut [Step], delivering: Half, receiving: Half) -> Answer

@@ -1,20 +1,19 @@
 -- What a number of the index tells of links, and that a sound directory has none beyond the index's places; a CSD's first investor link is its default.
-use Prim.Native.Nat.{ℕ, _+_, _*_, _<_}
+use Prim.Native.Nat.{ℕ, _+_, _<_}
 use mathlib.Core.Path.{_≡_, refl, sym, ap, _∙_}
 use mathlib.Core.Logic.{_≢_, inl, inr}
 use mathlib.Core.Bool.{true, false, cond}
 use mathlib.Core.List.{List, [], _∷_, _++_, List·Memᴰ, append-nil}
 use mathlib.Core.Option.{Option, none, some}
 use native.Mathlib.Omega.{arith}
-use native.Mathlib.Decide.{decLt}
 use lib.Dec.{eqb}
 use lib.Seq.{append-snoc}
-use lib.ListN.{getD}
 use Rattle.rules.specs.declared.Link.{Link}
 use Rattle.rules.specs.declared.Directory.{Directory}
 use Rattle.rules.specs.Tests.{find, eachAfter}
-use Rattle.rules.specs.Directory.{Rows, rowsOf, csdLimit, securityLimit, noAccount, isLink, isIssuer, isInvestor, isDefault, hasLink, hasIssuer, hasInvestor, hasLinkTo, issuerLink, defaultLink, linkRefusal, linksSound, withinLimits, soundRows, sound}
-use Rattle.rules.specs.Chain.{accountOf, issuance}
+use Rattle.rules.specs.Directory.{Rows, rowsOf, csdLimit, securityLimit, noAccount, isLink, isIssuer, isInvestor, isDefault, hasLink, hasIssuer, hasInvestor, hasLinkTo, issuerLink, defaultLink}
+use Rattle.rules.specs.Entries.{linkRefusal, linksSound, withinLimits, soundRows, sound}
+use Rattle.rules.specs.Lookups.{accountOf, issuance}
 use Rattle.rules.proofs.Basics.{clash, untrue, and-both, and-true, eqb-is, eqb-true, eqb-not, any-true, any-some, any-none, none-any, find-some, find-none}
 use Rattle.rules.proofs.FirstRow.{FirstIn, none-found, found-first}
 use Rattle.rules.proofs.Facts.{Facts}
@@ -23,8 +22,8 @@ use Rattle.rules.proofs.InOrder.{accepts}
 use Rattle.rules.proofs.NewLinks.{NewLink, accepted-link}
 use Rattle.rules.proofs.SoundParts.{tables}
 use Rattle.rules.proofs.Links.{has-issuer, found-default, has-link-to}
-use Rattle.index.specs.Index.{Indexed, routeAt, issuanceAt, issuerCode, defaultCode}
-use Rattle.index.proofs.Reading.{facts, csd-small}
+use Rattle.index.specs.Index.{Indexed, issuerCode, defaultCode}
+use Rattle.index.proofs.LookingUp.{facts, csd-small}
 
 -- ---- rows accepted in order: each after those that stand before it
 at-turn : {A : Type 0} (refusal : List A → A → ℕ) (done before after : List A) (x : A)
@@ -99,7 +98,7 @@ module _ (r : Rows) (s c : ℕ) where
     link-small l m e f =
         (rw e at (security-small r F (l .security) (F .links l m .securityRow)), rw f at (csd-small r F (l .csd) (F .links l m .csdRow)))
 
-    pub issuer-small : hasIssuer (r .links) s c ≡ true → (s < securityLimit) × (c < csdLimit)
+    issuer-small : hasIssuer (r .links) s c ≡ true → (s < securityLimit) × (c < csdLimit)
     issuer-small e = let x = has-issuer r s c e in link-small (x .0) (x .1 .entered) (x .1 .security) (x .1 .csd)
 
     default-small : (l : Link) → defaultLink (r .links) s c ≡ some l → (s < securityLimit) × (c < csdLimit)
@@ -144,34 +143,16 @@ module _ (r : Rows) (s c : ℕ) where
               | inr k ↦ clash (isInvestor s c l) (and-true (isLink s c l) (eqb (l .kind) 1) p (eqb-true (l .kind) 1 k)) (any-none (isInvestor s c) (r .links) f l m)
             ]
 
-    -- the code beyond the tables is 0
-    no-route : (s < securityLimit → c < csdLimit → ⊥) → 0 ≡ cond (hasIssuer (r .links) s c) issuerCode (defaultCode (defaultLink (r .links) s c))
-    no-route n =
-        let i : hasIssuer (r .links) s c ≡ false = untrue (hasIssuer (r .links) s c) (λ e. n (issuer-small e .0) (issuer-small e .1)) in
-        rw i (go (defaultLink (r .links) s c) refl)
+    -- beyond the tables there is no issuer link, and the code is 0
+    pub no-issuer : (s < securityLimit → c < csdLimit → ⊥) → hasIssuer (r .links) s c ≡ false
+    no-issuer n = untrue (hasIssuer (r .links) s c) (λ e. n (issuer-small e .0) (issuer-small e .1))
+
+    pub no-route : (s < securityLimit → c < csdLimit → ⊥) → 0 ≡ cond (hasIssuer (r .links) s c) issuerCode (defaultCode (defaultLink (r .links) s c))
+    no-route n = rw (no-issuer n) (go (defaultLink (r .links) s c) refl)
       where
         go : (o : Option Link) → defaultLink (r .links) s c ≡ o → 0 ≡ defaultCode o
         go none e = refl
         go (some l) e = absurd (n (default-small l e .0) (default-small l e .1))
-
--- ---- what the index has for a security and a CSD
-module _ {ix : List ℕ} {d : Directory} (h : Indexed ix d) (s c code : ℕ) where
-  pub route-read : (s < 16 → c < 32 → code ≡ getD ix (2853 + (s * 32 + c)) 0) → ((s < 16 → c < 32 → ⊥) → code ≡ 0)
-      → code ≡ cond (hasIssuer (rowsOf d .links) s c) issuerCode (defaultCode (defaultLink (rowsOf d .links) s c))
-  route-read within beyond = go (decLt s 16) (decLt c 32)
-    where
-      off : (s < 16 → c < 32 → ⊥) → code ≡ cond (hasIssuer (rowsOf d .links) s c) issuerCode (defaultCode (defaultLink (rowsOf d .links) s c))
-      off n = beyond n ∙ no-route (rowsOf d) s c (facts h) n
-
-      go : Dec (s < 16) → Dec (c < 32) → code ≡ cond (hasIssuer (rowsOf d .links) s c) issuerCode (defaultCode (defaultLink (rowsOf d .links) s c))
-      go (yes a) (yes b) = within a b ∙ h .at (routeAt s c) (a, b)
-      go (no n) q = off (λ a b. n a)
-      go (yes a) (no n) = off (λ a b. n b)
-
-  pub issuance-read : (s < 16 → c < 32 → code ≡ getD ix (3365 + (s * 32 + c)) 0) → hasIssuer (rowsOf d .links) s c ≡ true → code ≡ issuance (rowsOf d .links) s c
-  issuance-read within e =
-      let small = issuer-small (rowsOf d) s c (facts h) e in
-      within (small .0) (small .1) ∙ (rw e at (h .at (issuanceAt s c) small))
 
 pub first-is-default : {ix : List ℕ} {d : Directory} → Indexed ix d → (s c : ℕ) → defaultLink (rowsOf d .links) s c ≡ none → hasInvestor (rowsOf d .links) s c ≡ false
 unfolding sound

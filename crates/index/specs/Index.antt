@@ -4,19 +4,20 @@ use Prim.Native.Nat.{ℕ, zero, suc, _+_, _*_, _<_}
 use mathlib.Core.Bool.{Bool, true, false, cond}
 use mathlib.Core.List.{List}
 use mathlib.Core.Option.{Option, none, some}
-use lib.ListN.{length, getD, getElem?}
+use lib.Dec.{ltb}
+use lib.ListN.{length, getD, set, getElem?}
 use Rattle.rules.specs.declared.Csd.{Csd}
-use Rattle.rules.specs.declared.Security.{Security}
 use Rattle.rules.specs.declared.Account.{Account}
 use Rattle.rules.specs.declared.Pair.{Pair}
 use Rattle.rules.specs.declared.Link.{Link}
 use Rattle.rules.specs.declared.Directory.{Directory}
-use Rattle.rules.specs.Directory.{Rows, rowsOf, csdLimit, securityLimit, accountLimit, pairLimit, linkLimit, pairOf, isPaired, hasIssuer, hasLinkTo, defaultLink, sound}
-use Rattle.rules.specs.Chain.{issuance}
+use Rattle.rules.specs.Directory.{Rows, rowsOf, csdLimit, securityLimit, accountLimit, pairLimit, linkLimit, pairOf, isPaired, hasIssuer, hasLinkTo, defaultLink}
+use Rattle.rules.specs.Entries.{sound}
+use Rattle.rules.specs.Lookups.{issuance}
 
 -- What stands in an index: the counts of the five tables; by CSD its type; by account its CSD, its kind and whether it is in a pair; by investor and
 -- technical issuer the accounts of their pair; by security and CSD where the default walk leads, and the issuance account; by security, CSD and
--- technical issuer whether they are linked; the bytes of each CSD's BIC and each security's ISIN.
+-- technical issuer whether they are linked.
 pub data Place : Type 0 where
   csdCount : Place
   securityCount : Place
@@ -32,8 +33,6 @@ pub data Place : Type 0 where
   routeAt : ℕ → ℕ → Place
   issuanceAt : ℕ → ℕ → Place
   linkAt : ℕ → ℕ → ℕ → Place
-  bicAt : ℕ → ℕ → Place
-  isinAt : ℕ → ℕ → Place
 
 -- a number more than a row's, and 0 for no row
 abbrev pub typeCode : Option Csd → ℕ
@@ -66,22 +65,12 @@ omnibusCode (some p) = p .omnibus
 
 -- the code of an issuer, which is above that of every technical issuer
 abbrev pub issuerCode : ℕ
-issuerCode = 33
+issuerCode = csdLimit + 1
 
 -- the default link's technical issuer
 abbrev pub defaultCode : Option Link → ℕ
 defaultCode none = 0
 defaultCode (some l) = l .technical + 1
-
--- a byte of the CSD's BIC
-abbrev pub bicByte : Option Csd → ℕ → ℕ
-bicByte none k = 0
-bicByte (some x) k = getD (x .bic) k 0
-
--- a byte of the security's ISIN
-abbrev pub isinByte : Option Security → ℕ → ℕ
-isinByte none k = 0
-isinByte (some x) k = getD (x .isin) k 0
 
 -- the index of a directory's rows: the number at each place
 abbrev pub indexOf : Rows → Place → ℕ
@@ -99,8 +88,6 @@ indexOf r (omnibusAt i t) = omnibusCode (pairOf (r .pairs) i t)
 indexOf r (routeAt s c) = cond (hasIssuer (r .links) s c) issuerCode (defaultCode (defaultLink (r .links) s c))
 indexOf r (issuanceAt s c) = cond (hasIssuer (r .links) s c) (issuance (r .links) s c) 0
 indexOf r (linkAt s c t) = flagCode (hasLinkTo (r .links) s c t)
-indexOf r (bicAt c k) = bicByte (getElem? (r .csds) c) k
-indexOf r (isinAt s k) = isinByte (getElem? (r .securities) s) k
 
 -- the places that an index has
 abbrev pub Inside : Place → Type 0
@@ -109,17 +96,55 @@ Inside securityCount = Unit {0}
 Inside accountCount = Unit {0}
 Inside pairCount = Unit {0}
 Inside linkCount = Unit {0}
-Inside (typeAt c) = c < 32
-Inside (homeAt a) = a < 256
-Inside (kindAt a) = a < 256
-Inside (pairedAt a) = a < 256
-Inside (mirrorAt i t) = (i < 32) × (t < 32)
-Inside (omnibusAt i t) = (i < 32) × (t < 32)
-Inside (routeAt s c) = (s < 16) × (c < 32)
-Inside (issuanceAt s c) = (s < 16) × (c < 32)
-Inside (linkAt s c t) = (s < 16) × ((c < 32) × (t < 32))
-Inside (bicAt c k) = (c < 32) × (k < 11)
-Inside (isinAt s k) = (s < 16) × (k < 12)
+Inside (typeAt c) = c < csdLimit
+Inside (homeAt a) = a < accountLimit
+Inside (kindAt a) = a < accountLimit
+Inside (pairedAt a) = a < accountLimit
+Inside (mirrorAt i t) = (i < csdLimit) × (t < csdLimit)
+Inside (omnibusAt i t) = (i < csdLimit) × (t < csdLimit)
+Inside (routeAt s c) = (s < securityLimit) × (c < csdLimit)
+Inside (issuanceAt s c) = (s < securityLimit) × (c < csdLimit)
+Inside (linkAt s c t) = (s < securityLimit) × ((c < csdLimit) × (t < csdLimit))
+
+-- where the regions of the index begin, one behind the other, after the five counts
+abbrev pub types : ℕ
+types = 5
+
+abbrev pub homes : ℕ
+homes = types + csdLimit
+
+abbrev pub kinds : ℕ
+kinds = homes + accountLimit
+
+abbrev pub paired : ℕ
+paired = kinds + accountLimit
+
+abbrev pub mirrors : ℕ
+mirrors = paired + accountLimit
+
+abbrev pub omnibuses : ℕ
+omnibuses = mirrors + csdLimit * csdLimit
+
+abbrev pub routes : ℕ
+routes = omnibuses + csdLimit * csdLimit
+
+abbrev pub issuances : ℕ
+issuances = routes + securityLimit * csdLimit
+
+abbrev pub linked : ℕ
+linked = issuances + securityLimit * csdLimit
+
+-- how many numbers an index has
+abbrev pub indexSize : ℕ
+indexSize = linked + securityLimit * csdLimit * csdLimit
+
+-- the number at a place of a list, 0 behind the end of an index
+unfoldable pub numberAt : List ℕ → ℕ → ℕ
+numberAt l p = cond (ltb p indexSize) (getD l p 0) 0
+
+-- the list with the number at the place; behind the end of an index nothing is put
+unfoldable pub withNumber : List ℕ → ℕ → ℕ → List ℕ
+withNumber l p n = cond (ltb p indexSize) (set l p n) l
 
 -- where they stand
 abbrev pub placeOf : Place → ℕ
@@ -128,21 +153,15 @@ placeOf securityCount = 1
 placeOf accountCount = 2
 placeOf pairCount = 3
 placeOf linkCount = 4
-placeOf (typeAt c) = 5 + c
-placeOf (homeAt a) = 37 + a
-placeOf (kindAt a) = 293 + a
-placeOf (pairedAt a) = 549 + a
-placeOf (mirrorAt i t) = 805 + (i * 32 + t)
-placeOf (omnibusAt i t) = 1829 + (i * 32 + t)
-placeOf (routeAt s c) = 2853 + (s * 32 + c)
-placeOf (issuanceAt s c) = 3365 + (s * 32 + c)
-placeOf (linkAt s c t) = 3877 + ((s * 32 + c) * 32 + t)
-placeOf (bicAt c k) = 20261 + (11 * c + k)
-placeOf (isinAt s k) = 20613 + (12 * s + k)
-
--- how many numbers an index has
-abbrev pub indexSize : ℕ
-indexSize = 20805
+placeOf (typeAt c) = types + c
+placeOf (homeAt a) = homes + a
+placeOf (kindAt a) = kinds + a
+placeOf (pairedAt a) = paired + a
+placeOf (mirrorAt i t) = mirrors + (i * csdLimit + t)
+placeOf (omnibusAt i t) = omnibuses + (i * csdLimit + t)
+placeOf (routeAt s c) = routes + (s * csdLimit + c)
+placeOf (issuanceAt s c) = issuances + (s * csdLimit + c)
+placeOf (linkAt s c t) = linked + ((s * csdLimit + c) * csdLimit + t)
 
 -- the tables are as long as their limits, rows that are not in use among them
 pub record WholeTables (d : Directory) : Type 0 where

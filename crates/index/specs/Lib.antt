@@ -1,4 +1,3 @@
 pub mod Index
-pub mod Bytes
-pub mod Leading
-pub mod Steps
+pub mod Asked
+pub mod Found

@@ -1,37 +1,40 @@
-// Questions to an index, each answered as searching the tables of the directory would.
+// Questions to an index. Each is answered for every list of numbers as specs/Asked says; where the list is the index of a directory, that is what
+// searching its tables would answer.
+use crate::places::ACCOUNT_COUNT;
 use crate::places::HOMES;
-use crate::places::ISINS;
+use crate::places::INDEX;
 use crate::places::ISSUANCES;
 use crate::places::ISSUER;
 use crate::places::KINDS;
+use crate::places::LINK_COUNT;
 use crate::places::LINKED;
 use crate::places::MIRRORS;
 use crate::places::OMNIBUSES;
+use crate::places::PAIR_COUNT;
 use crate::places::PAIRED;
 use crate::places::ROUTES;
 use crate::places::SECURITY_COUNT;
 use crate::places::TYPES;
 use crate::places::entry;
-use directory::pairs::PairFound;
-use directory::rows::NO_ACCOUNT;
-use directory::rows::NO_CSD;
 use rules::ACCOUNTS;
 use rules::CSDS;
+use rules::LINKS;
+use rules::NO_ACCOUNT;
+use rules::NO_CSD;
+use rules::PAIRS;
 use rules::Pair;
 use rules::SECURITIES;
 ghost use mathlib.Core.Path.{_≡_};
-ghost use mathlib.Core.Bool.{cond};
-ghost use Prim.Native.Nat.{_+_, _*_, _<_};
-ghost use mathlib.Core.Option.{some};
-ghost use lib.ListN.{getD, getElem?, take};
-ghost use Rattle.rules.specs.declared.Security.{Security};
-ghost use Rattle.rules.specs.declared.Directory.{Directory};
-ghost use Rattle.rules.specs.Tests.{isRow};
-ghost use Rattle.rules.specs.Directory.{csdRows, securityRows, accountRows, pairRows, linkRows, external, isKind, inBooks, isAccountOf, isPaired, isJoined, pairOf, hasIssuer, hasInvestor, hasLink, hasLinkTo, defaultLink};
-ghost use Rattle.rules.specs.Chain.{homeOf, issuance};
-ghost use Rattle.directory.specs.Found.{pairFound};
-ghost use Rattle.index.specs.Index.{Indexed, typeCode, homeCode, kindCode};
-ghost use Rattle.index.specs.Leading.{leadingOf};
+ghost use Rattle.rules.specs.Lookups.{isAccountOf};
+ghost use Rattle.index.specs.Index.{typeAt, homeAt, kindAt, mirrorAt, routeAt};
+ghost use Rattle.index.specs.Asked.{read, asked};
+ghost use Rattle.index.specs.Found.{leadingOf, pairFound};
+
+// A pair's row, if there is one.
+pub enum PairFound {
+    Row(Pair),
+    Missing,
+}
 
 // Where a CSD's links for a security lead by default: nowhere further for an issuer, else to a technical issuer, if there is a default link.
 pub enum Leading {
@@ -41,8 +44,8 @@ pub enum Leading {
 }
 
 // One more than the CSD's type, 0 where the number names no row.
-fn type_code(index: &[u16], csd: u8) -> u16
-    ensures { λ r. ⌜ ((d : Directory) → Indexed (now (index .entry)) d → r ≡ typeCode (getElem? (csdRows (d .csds)) csd)) ⌝ }
+fn type_code(index: &[u16; INDEX], csd: u8) -> u16
+    ensures { λ r. ⌜ r ≡ read (now (index .entry)) (typeAt csd) ⌝ }
 {
     let c = csd as usize;
     if CSDS <= c {
@@ -51,29 +54,48 @@ fn type_code(index: &[u16], csd: u8) -> u16
     entry(index, TYPES + c)
 }
 
+// Whether the table holds as many rows as it may.
+pub fn accounts_full(index: &[u16; INDEX]) -> bool
+    ensures { λ r. ⌜ r ≡ asked (now (index .entry)) .accountsFull ⌝ }
+{
+    ACCOUNTS <= (entry(index, ACCOUNT_COUNT) as usize)
+}
+
+pub fn pairs_full(index: &[u16; INDEX]) -> bool
+    ensures { λ r. ⌜ r ≡ asked (now (index .entry)) .pairsFull ⌝ }
+{
+    PAIRS <= (entry(index, PAIR_COUNT) as usize)
+}
+
+pub fn links_full(index: &[u16; INDEX]) -> bool
+    ensures { λ r. ⌜ r ≡ asked (now (index .entry)) .linksFull ⌝ }
+{
+    LINKS <= (entry(index, LINK_COUNT) as usize)
+}
+
 // Whether the number names a row of its table.
-pub fn is_csd(index: &[u16], csd: u8) -> bool
-    ensures { λ r. ⌜ ((d : Directory) → Indexed (now (index .entry)) d → r ≡ isRow (csdRows (d .csds)) csd) ⌝ }
+pub fn is_csd(index: &[u16; INDEX], csd: u8) -> bool
+    ensures { λ r. ⌜ r ≡ asked (now (index .entry)) .csd csd ⌝ }
 {
     type_code(index, csd) != 0
 }
 
-pub fn is_security(index: &[u16], security: u8) -> bool
-    ensures { λ r. ⌜ ((d : Directory) → Indexed (now (index .entry)) d → r ≡ isRow (securityRows (d .securities)) security) ⌝ }
+pub fn is_security(index: &[u16; INDEX], security: u8) -> bool
+    ensures { λ r. ⌜ r ≡ asked (now (index .entry)) .security security ⌝ }
 {
     (security as u16) < entry(index, SECURITY_COUNT)
 }
 
 // Whether the CSD is external; a number that names no row is not.
-pub fn is_external(index: &[u16], csd: u8) -> bool
-    ensures { λ r. ⌜ ((d : Directory) → Indexed (now (index .entry)) d → r ≡ external (csdRows (d .csds)) csd) ⌝ }
+pub fn is_external(index: &[u16; INDEX], csd: u8) -> bool
+    ensures { λ r. ⌜ r ≡ asked (now (index .entry)) .outside csd ⌝ }
 {
     type_code(index, csd) == 2
 }
 
 // One more than the account's CSD, 0 where the number names no row.
-fn home_code(index: &[u16], account: u16) -> u16
-    ensures { λ r. ⌜ ((d : Directory) → Indexed (now (index .entry)) d → r ≡ homeCode (getElem? (accountRows (d .accounts)) account)) ⌝ }
+fn home_code(index: &[u16; INDEX], account: u16) -> u16
+    ensures { λ r. ⌜ r ≡ read (now (index .entry)) (homeAt account) ⌝ }
 {
     let a = account as usize;
     if ACCOUNTS <= a {
@@ -83,8 +105,8 @@ fn home_code(index: &[u16], account: u16) -> u16
 }
 
 // One more than the account's kind, 0 where the number names no row.
-fn kind_code(index: &[u16], account: u16) -> u16
-    ensures { λ r. ⌜ ((d : Directory) → Indexed (now (index .entry)) d → r ≡ kindCode (getElem? (accountRows (d .accounts)) account)) ⌝ }
+fn kind_code(index: &[u16; INDEX], account: u16) -> u16
+    ensures { λ r. ⌜ r ≡ read (now (index .entry)) (kindAt account) ⌝ }
 {
     let a = account as usize;
     if ACCOUNTS <= a {
@@ -93,15 +115,15 @@ fn kind_code(index: &[u16], account: u16) -> u16
     entry(index, KINDS + a)
 }
 
-pub fn is_account(index: &[u16], account: u16) -> bool
-    ensures { λ r. ⌜ ((d : Directory) → Indexed (now (index .entry)) d → r ≡ isRow (accountRows (d .accounts)) account) ⌝ }
+pub fn is_account(index: &[u16; INDEX], account: u16) -> bool
+    ensures { λ r. ⌜ r ≡ asked (now (index .entry)) .account account ⌝ }
 {
     home_code(index, account) != 0
 }
 
 // The CSD in whose books the account stands, hex FF where the number names no row.
-pub fn home_of(index: &[u16], account: u16) -> u8
-    ensures { λ r. ⌜ ((d : Directory) → Indexed (now (index .entry)) d → r ≡ homeOf (accountRows (d .accounts)) account) ⌝ }
+pub fn home_of(index: &[u16; INDEX], account: u16) -> u8
+    ensures { λ r. ⌜ r ≡ asked (now (index .entry)) .home account ⌝ }
 {
     let code = home_code(index, account);
     if code == 0 {
@@ -114,29 +136,29 @@ pub fn home_of(index: &[u16], account: u16) -> u8
 }
 
 // Whether the account stands in the books of this CSD.
-pub fn in_books(index: &[u16], account: u16, csd: u8) -> bool
-    ensures { λ r. ⌜ ((d : Directory) → Indexed (now (index .entry)) d → r ≡ inBooks (accountRows (d .accounts)) account csd) ⌝ }
+pub fn in_books(index: &[u16; INDEX], account: u16, csd: u8) -> bool
+    ensures { λ r. ⌜ r ≡ asked (now (index .entry)) .books account csd ⌝ }
 {
     home_code(index, account) == (csd as u16) + 1
 }
 
 // Whether the account is of this kind.
-pub fn is_kind(index: &[u16], account: u16, kind: u8) -> bool
-    ensures { λ r. ⌜ ((d : Directory) → Indexed (now (index .entry)) d → r ≡ isKind (accountRows (d .accounts)) account kind) ⌝ }
+pub fn is_kind(index: &[u16; INDEX], account: u16, kind: u8) -> bool
+    ensures { λ r. ⌜ r ≡ asked (now (index .entry)) .kind account kind ⌝ }
 {
     kind_code(index, account) == (kind as u16) + 1
 }
 
 // Both.
-pub fn is_account_of(index: &[u16], account: u16, csd: u8, kind: u8) -> bool
-    ensures { λ r. ⌜ ((d : Directory) → Indexed (now (index .entry)) d → r ≡ isAccountOf (accountRows (d .accounts)) account csd kind) ⌝ }
+pub fn is_account_of(index: &[u16; INDEX], account: u16, csd: u8, kind: u8) -> bool
+    ensures { λ r. ⌜ r ≡ isAccountOf (asked (now (index .entry))) account csd kind ⌝ }
 {
     in_books(index, account, csd) & is_kind(index, account, kind)
 }
 
 // Whether the account is in a pair; hex FFFF never is.
-pub fn is_paired(index: &[u16], account: u16) -> bool
-    ensures { λ r. ⌜ ((d : Directory) → Indexed (now (index .entry)) d → r ≡ isPaired (pairRows (d .pairs)) account) ⌝ }
+pub fn is_paired(index: &[u16; INDEX], account: u16) -> bool
+    ensures { λ r. ⌜ r ≡ asked (now (index .entry)) .paired account ⌝ }
 {
     let a = account as usize;
     if ACCOUNTS <= a {
@@ -145,23 +167,30 @@ pub fn is_paired(index: &[u16], account: u16) -> bool
     entry(index, PAIRED + a) != 0
 }
 
-// The pair of an investor CSD and its technical issuer.
-pub fn pair_of(index: &[u16], investor: u8, technical: u8) -> PairFound
-    ensures { λ r. ⌜ ((d : Directory) → Indexed (now (index .entry)) d → r ≡ pairFound (pairOf (pairRows (d .pairs)) investor technical)) ⌝ }
+// One more than the pair's account in the investor's books, 0 where they have no pair.
+fn mirror_code(index: &[u16; INDEX], investor: u8, technical: u8) -> u16
+    ensures { λ r. ⌜ r ≡ read (now (index .entry)) (mirrorAt investor technical) ⌝ }
 {
     let i = investor as usize;
     let t = technical as usize;
     if CSDS <= i {
-        return PairFound::Missing;
+        return 0;
     }
     if CSDS <= t {
-        return PairFound::Missing;
+        return 0;
     }
-    let place = i * CSDS + t;
-    let code = entry(index, MIRRORS + place);
+    entry(index, MIRRORS + (i * CSDS + t))
+}
+
+// The pair of an investor CSD and its technical issuer.
+pub fn pair_of(index: &[u16; INDEX], investor: u8, technical: u8) -> PairFound
+    ensures { λ r. ⌜ r ≡ pairFound (asked (now (index .entry)) .pair investor technical) ⌝ }
+{
+    let code = mirror_code(index, investor, technical);
     if code == 0 {
         return PairFound::Missing;
     }
+    let place = (investor as usize) * CSDS + (technical as usize);
     let omnibus = entry(index, OMNIBUSES + place);
     PairFound::Row(Pair {
         investor,
@@ -172,20 +201,15 @@ pub fn pair_of(index: &[u16], investor: u8, technical: u8) -> PairFound
 }
 
 // Whether they have a pair.
-pub fn is_joined(index: &[u16], investor: u8, technical: u8) -> bool
-    ensures { λ r. ⌜ ((d : Directory) → Indexed (now (index .entry)) d → r ≡ isJoined (pairRows (d .pairs)) investor technical) ⌝ }
+pub fn is_joined(index: &[u16; INDEX], investor: u8, technical: u8) -> bool
+    ensures { λ r. ⌜ r ≡ asked (now (index .entry)) .joined investor technical ⌝ }
 {
-    match pair_of(index, investor, technical) {
-        PairFound::Row(_) => true,
-        PairFound::Missing => false,
-    }
+    mirror_code(index, investor, technical) != 0
 }
 
-// The number that stands for a security and a CSD in a region of the index, 0 where one of them is beyond its table.
-fn code_at(index: &[u16], region: usize, security: u8, csd: u8) -> u16
-    requires { ⌜ region < 20805 ⌝ }
-    ensures inside { λ r. ⌜ (security < 16 → csd < 32 → r ≡ getD (now (index .entry)) (region + (security * 32 + csd)) 0) ⌝ }
-    ensures outside { λ r. ⌜ ((security < 16 → csd < 32 → ⊥) → r ≡ 0) ⌝ }
+// What stands for the CSD's links for the security: where they lead by default.
+fn route_code(index: &[u16; INDEX], security: u8, csd: u8) -> u16
+    ensures { λ r. ⌜ r ≡ read (now (index .entry)) (routeAt security csd) ⌝ }
 {
     let s = security as usize;
     let c = csd as usize;
@@ -195,14 +219,14 @@ fn code_at(index: &[u16], region: usize, security: u8, csd: u8) -> u16
     if CSDS <= c {
         return 0;
     }
-    entry(index, region + (s * CSDS + c))
+    entry(index, ROUTES + (s * CSDS + c))
 }
 
 // Where the CSD's links for the security lead by default.
-pub fn leading_at(index: &[u16], security: u8, csd: u8) -> Leading
-    ensures { λ r. ⌜ ((d : Directory) → Indexed (now (index .entry)) d → r ≡ leadingOf (hasIssuer (linkRows (d .links)) security csd) (defaultLink (linkRows (d .links)) security csd)) ⌝ }
+pub fn leading_at(index: &[u16; INDEX], security: u8, csd: u8) -> Leading
+    ensures { λ r. ⌜ r ≡ leadingOf (asked (now (index .entry)) .issuer security csd) (asked (now (index .entry)) .onward security csd) ⌝ }
 {
-    let code = code_at(index, ROUTES, security, csd);
+    let code = route_code(index, security, csd);
     if code == 0 {
         return Leading::Nowhere;
     }
@@ -212,52 +236,45 @@ pub fn leading_at(index: &[u16], security: u8, csd: u8) -> Leading
     Leading::To((code - 1) as u8)
 }
 
-// An issuer link of the CSD for the security.
-pub fn has_issuer(index: &[u16], security: u8, csd: u8) -> bool
-    ensures { λ r. ⌜ ((d : Directory) → Indexed (now (index .entry)) d → r ≡ hasIssuer (linkRows (d .links)) security csd) ⌝ }
+// Whether the CSD has a link for the security.
+pub fn has_link(index: &[u16; INDEX], security: u8, csd: u8) -> bool
+    ensures { λ r. ⌜ r ≡ asked (now (index .entry)) .anyLink security csd ⌝ }
 {
-    match leading_at(index, security, csd) {
-        Leading::Issuer => true,
-        Leading::To(_) => false,
-        Leading::Nowhere => false,
-    }
+    route_code(index, security, csd) != 0
+}
+
+// An issuer link.
+pub fn has_issuer(index: &[u16; INDEX], security: u8, csd: u8) -> bool
+    ensures { λ r. ⌜ r ≡ asked (now (index .entry)) .issuer security csd ⌝ }
+{
+    ISSUER <= route_code(index, security, csd)
 }
 
 // An investor link.
-pub fn has_investor(index: &[u16], security: u8, csd: u8) -> bool
-    ensures { λ r. ⌜ ((d : Directory) → Indexed (now (index .entry)) d → r ≡ hasInvestor (linkRows (d .links)) security csd) ⌝ }
+pub fn has_investor(index: &[u16; INDEX], security: u8, csd: u8) -> bool
+    ensures { λ r. ⌜ r ≡ asked (now (index .entry)) .investor security csd ⌝ }
 {
-    match leading_at(index, security, csd) {
-        Leading::Issuer => false,
-        Leading::To(_) => true,
-        Leading::Nowhere => false,
-    }
-}
-
-// Any link.
-pub fn has_link(index: &[u16], security: u8, csd: u8) -> bool
-    ensures { λ r. ⌜ ((d : Directory) → Indexed (now (index .entry)) d → r ≡ hasLink (linkRows (d .links)) security csd) ⌝ }
-{
-    match leading_at(index, security, csd) {
-        Leading::Issuer => true,
-        Leading::To(_) => true,
-        Leading::Nowhere => false,
-    }
+    let code = route_code(index, security, csd);
+    (code != 0) & (code < ISSUER)
 }
 
 // The issuance account of the CSD's issuer link, hex FFFF where it has none.
-pub fn issuance_of(index: &[u16], security: u8, csd: u8) -> u16
-    ensures { λ r. ⌜ ((d : Directory) → Indexed (now (index .entry)) d → r ≡ issuance (linkRows (d .links)) security csd) ⌝ }
+pub fn issuance_of(index: &[u16; INDEX], security: u8, csd: u8) -> u16
+    ensures { λ r. ⌜ r ≡ asked (now (index .entry)) .issuing security csd ⌝ }
 {
-    if has_issuer(index, security, csd) {
-        return code_at(index, ISSUANCES, security, csd);
+    let code = route_code(index, security, csd);
+    if code < ISSUER {
+        return NO_ACCOUNT;
     }
-    NO_ACCOUNT
+    entry(
+        index,
+        ISSUANCES + ((security as usize) * CSDS + (csd as usize)),
+    )
 }
 
 // An investor link, "default or alternative", to this technical issuer.
-pub fn has_link_to(index: &[u16], security: u8, csd: u8, technical: u8) -> bool
-    ensures { λ r. ⌜ ((d : Directory) → Indexed (now (index .entry)) d → r ≡ hasLinkTo (linkRows (d .links)) security csd technical) ⌝ }
+pub fn has_link_to(index: &[u16; INDEX], security: u8, csd: u8, technical: u8) -> bool
+    ensures { λ r. ⌜ r ≡ asked (now (index .entry)) .linked security csd technical ⌝ }
 {
     let s = security as usize;
     let c = csd as usize;
@@ -272,18 +289,4 @@ pub fn has_link_to(index: &[u16], security: u8, csd: u8, technical: u8) -> bool
         return false;
     }
     entry(index, LINKED + ((s * CSDS + c) * CSDS + t)) != 0
-}
-
-// The bytes of the security's ISIN.
-pub fn isin_of(index: &[u16], security: u8) -> [u8; 12]
-    ensures { λ r. ⌜ ((d : Directory) → Indexed (now (index .entry)) d → (x : Security) → getElem? (securityRows (d .securities)) security ≡ some x → r ≡ take 12 (x .isin)) ⌝ }
-{
-    let from = ISINS + 12 * (security as usize);
-    let mut isin = [0u8; 12];
-    let mut i: usize = 0;
-    while i < 12 {
-        isin[i] = (entry(index, from + i) % 256) as u8;
-        i += 1;
-    }
-    isin
 }

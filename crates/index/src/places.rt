@@ -3,7 +3,7 @@ use rules::ACCOUNTS;
 use rules::CSDS;
 use rules::SECURITIES;
 ghost use mathlib.Core.Path.{_≡_};
-ghost use lib.ListN.{getD, set};
+ghost use Rattle.index.specs.Index.{numberAt, withNumber};
 
 // How many rows each table has.
 pub const CSD_COUNT: usize = 0;
@@ -39,32 +39,27 @@ pub const ISSUANCES: usize = ROUTES + SECURITIES * CSDS;
 // By security, CSD and technical issuer: whether they are linked.
 pub const LINKED: usize = ISSUANCES + SECURITIES * CSDS;
 
-// The bytes of each CSD's BIC and of each security's ISIN.
-pub const BICS: usize = LINKED + SECURITIES * CSDS * CSDS;
-
-pub const ISINS: usize = BICS + 11 * CSDS;
-
 // How many numbers an index has.
-pub const INDEX: usize = ISINS + 12 * SECURITIES;
+pub const INDEX: usize = LINKED + SECURITIES * CSDS * CSDS;
 
 // What stands at ROUTES for an issuer; for others it is one more than the technical issuer of the default link, and 0 without one.
-pub const ISSUER: u16 = 33;
+pub const ISSUER: u16 = (CSDS as u16) + 1;
 
 // The number at a place, 0 behind the end.
-pub fn entry(index: &[u16], place: usize) -> u16
-    ensures { λ r. ⌜ r ≡ getD (now (index .entry)) place 0 ⌝ }
+pub fn entry(index: &[u16; INDEX], place: usize) -> u16
+    ensures { λ r. ⌜ r ≡ numberAt (now (index .entry)) place ⌝ }
 {
-    if place < index.len() {
+    if place < INDEX {
         return index[place];
     }
     0
 }
 
 // The number put at the place; nothing is put behind the end.
-pub fn store(index: &mut [u16], place: usize, value: u16)
-    ensures { λ _. ⌜ now (index .exit) ≡ set (now (index .entry)) place value ⌝ }
+pub fn store(index: &mut [u16; INDEX], place: usize, value: u16)
+    ensures { λ _. ⌜ now (index .exit) ≡ withNumber (now (index .entry)) place value ⌝ }
 {
-    if place < index.len() {
+    if place < INDEX {
         index[place] = value;
     }
 }

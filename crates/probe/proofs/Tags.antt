@@ -3,7 +3,7 @@ use Prim.Native.Nat.{ℕ}
 use mathlib.Core.Path.{_≡_}
 use mathlib.Core.Logic.{_≢_}
 use mathlib.Core.List.{List}
-use Rattle.rules.specs.Directory.{csdRow, securityRow}
+use Rattle.rules.specs.Entries.{csdRow, securityRow}
 use Rattle.rules.specs.Booking.{incoming, outgoing}
 use Rattle.rules.specs.Stream.{accountAt, pairAt, linkAt, moveAt, payAt}
 use Rattle.rules.proofs.Basics.{eqb-false}

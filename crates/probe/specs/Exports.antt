@@ -10,7 +10,7 @@ use Rattle.rules.specs.declared.SecurityTotal.the-variants.{SumUnits, NoUnits}
 use Rattle.rules.specs.declared.CashTotal.{CashTotal}
 use Rattle.rules.specs.declared.CashTotal.the-variants.{SumCents, NoCents}
 use Rattle.rules.specs.declared.Entered.{Entered}
-use Rattle.rules.specs.Directory.{Row, csdRow, securityRow}
+use Rattle.rules.specs.Entries.{Row, csdRow, securityRow}
 use Rattle.rules.specs.Booking.{incoming, outgoing}
 use Rattle.rules.specs.Calls.{Call, Outcome, desk}
 use Rattle.rules.specs.Stream.{accountAt, pairAt, linkAt, moveAt, payAt, halfAt}

@@ -8,8 +8,10 @@ use lib.Dec.{eqb, ltb}
 use lib.ListN.{length}
 use Rattle.rules.specs.Types.{Half, Step}
 use Rattle.rules.specs.Tests.{isRow, _when_, lowest}
-use Rattle.rules.specs.Directory.{Rows, rowsOf, isKind, sound}
-use Rattle.rules.specs.Chain.{chained, stepsOf, chainConditions, stepLimit, homeOf, chain}
+use Rattle.rules.specs.Directory.{Rows, rowsOf, isKind}
+use Rattle.rules.specs.Entries.{sound}
+use Rattle.rules.specs.Lookups.{homeOf, ask}
+use Rattle.rules.specs.Chain.{chained, stepsOf, chainConditions, stepLimit, chain}
 use Rattle.rules.specs.Booking.{Way, positionCount, cashCount, contra, moveBy, moveChain, payShort, unitsShort, unitsBeyond}
 use Rattle.rules.specs.Calls.{Store, Call, move, pay, settle, misfit, coreConditions, deskConditions, halvesConditions, halvesChain, deriveConditions, bookConditions}
 use Rattle.rules.specs.Demands.{Agree, Allowed}
@@ -44,19 +46,19 @@ pub record MoveFacts (st : Store) (w : Way) (a s q : ℕ) : Type 0 where
   pub size : length (st .positions) ≡ positionCount
   pub holder : isKind (rowsOf (st .directory) .accounts) a 0 ≡ true
   pub other : ℕ
-  pub found : contra (rowsOf (st .directory) .csds) (rowsOf (st .directory) .pairs) (rowsOf (st .directory) .links) s (homeOf (rowsOf (st .directory) .accounts) a) ≡ some other
+  pub found : contra (ask (rowsOf (st .directory))) s (homeOf (rowsOf (st .directory) .accounts) a) ≡ some other
   pub against : Contra (rowsOf (st .directory)) a other
-  pub chain : stepsOf (moveChain (rowsOf (st .directory)) w a s) ≡ moveSteps (rowsOf (st .directory)) w a other
+  pub chain : stepsOf (moveChain (ask (rowsOf (st .directory))) w a s) ≡ moveSteps (rowsOf (st .directory)) w a other
   pub transfer : Transfer (rowsOf (st .directory)) (st .positions) (source w a other) (moveSteps (rowsOf (st .directory)) w a other) (target w a other) s q
 
 -- its chain is one step against the contra account
-move-chain : (r : Rows) (w : Way) (a s : ℕ) (xs : List Step) → moveChain r w a s ≡ chained xs
-    → (other : ℕ) × (contra (r .csds) (r .pairs) (r .links) s (homeOf (r .accounts) a) ≡ some other) × (xs ≡ moveSteps r w a other)
+move-chain : (r : Rows) (w : Way) (a s : ℕ) (xs : List Step) → moveChain (ask r) w a s ≡ chained xs
+    → (other : ℕ) × (contra (ask r) s (homeOf (r .accounts) a) ≡ some other) × (xs ≡ moveSteps r w a other)
 unfolding moveChain
-move-chain r w a s xs e = go (contra (r .csds) (r .pairs) (r .links) s (homeOf (r .accounts) a)) refl e
+move-chain r w a s xs e = go (contra (ask r) s (homeOf (r .accounts) a)) refl e
   where
-    go : (o : Option ℕ) → contra (r .csds) (r .pairs) (r .links) s (homeOf (r .accounts) a) ≡ o → moveBy w (homeOf (r .accounts) a) a o ≡ chained xs
-        → (other : ℕ) × (contra (r .csds) (r .pairs) (r .links) s (homeOf (r .accounts) a) ≡ some other) × (xs ≡ moveSteps r w a other)
+    go : (o : Option ℕ) → contra (ask r) s (homeOf (r .accounts) a) ≡ o → moveBy w (homeOf (r .accounts) a) a o ≡ chained xs
+        → (other : ℕ) × (contra (ask r) s (homeOf (r .accounts) a) ≡ some other) × (xs ≡ moveSteps r w a other)
     go none f c = impossible (cc)
     go (some u) f c = (u, f, sym (ap stepsOf c))
 
@@ -92,15 +94,15 @@ move-facts st w a s q free =
     holder = unnot-false (isKind (rows .accounts) a 0) (all .1 .1 .1 .1 .0)
 
     steps : List Step
-    steps = stepsOf (moveChain rows w a s)
+    steps = stepsOf (moveChain (ask rows) w a s)
 
-    parts : Quiet (chainConditions (moveChain rows w a s)) × Quiet (20 when unitsShort (rows .accounts) (st .positions) s q steps ∷ 22 when unitsBeyond (st .positions) s q steps ∷ [])
+    parts : Quiet (chainConditions (moveChain (ask rows) w a s)) × Quiet (20 when unitsShort (isKind (rows .accounts)) (st .positions) s q steps ∷ 22 when unitsBeyond (st .positions) s q steps ∷ [])
     parts =
-        quiet-both (chainConditions (moveChain rows w a s)) (20 when unitsShort (rows .accounts) (st .positions) s q steps ∷ 22 when unitsBeyond (st .positions) s q steps ∷ [])
+        quiet-both (chainConditions (moveChain (ask rows) w a s)) (20 when unitsShort (isKind (rows .accounts)) (st .positions) s q steps ∷ 22 when unitsBeyond (st .positions) s q steps ∷ [])
         (all .1 .1 .1 .1 .1)
 
-    one : (other : ℕ) × (contra (rows .csds) (rows .pairs) (rows .links) s (homeOf (rows .accounts) a) ≡ some other) × (steps ≡ moveSteps rows w a other)
-    one = move-chain rows w a s steps (quiet-chained (moveChain rows w a s) (parts .0))
+    one : (other : ℕ) × (contra (ask rows) s (homeOf (rows .accounts) a) ≡ some other) × (steps ≡ moveSteps rows w a other)
+    one = move-chain rows w a s steps (quiet-chained (moveChain (ask rows) w a s) (parts .0))
 
     against : Contra rows a (one .0)
     against = contra-gives rows facts s a (one .0) holder (one .1)
@@ -127,14 +129,14 @@ pub record SettleFacts (st : Store) (h g : Half) (steps : List Step) : Type 0 wh
   pub positions : length (st .positions) ≡ positionCount
   pub cash : length (st .cash) ≡ cashCount
   pub agree : Agree (rowsOf (st .directory)) h g
-  pub chain : chain (rowsOf (st .directory)) (h .security) (h .account) (g .account) ≡ chained steps
+  pub chain : chain (ask (rowsOf (st .directory))) (h .security) (h .account) (g .account) ≡ chained steps
   pub allowed : Allowed st h g steps
   pub transfer : Transfer (rowsOf (st .directory)) (st .positions) (h .account) steps (g .account) (h .security) (h .quantity)
   pub payer : g .account < cashCount
   pub payee : h .account < cashCount
 
 pub settle-facts : (st : Store) (h g : Half) (lent : List Step) → lowest (deskConditions (settle h g lent) st) ≡ 0
-    → SettleFacts st h g (stepsOf (halvesChain (rowsOf (st .directory)) h g))
+    → SettleFacts st h g (stepsOf (halvesChain (ask (rowsOf (st .directory))) h g))
 unfolding misfit
 settle-facts st h g lent free =
     record {
@@ -158,7 +160,7 @@ settle-facts st h g lent free =
     rows = rowsOf (st .directory)
 
     steps : List Step
-    steps = stepsOf (halvesChain rows h g)
+    steps = stepsOf (halvesChain (ask rows) h g)
 
     all : Quiet (deskConditions (settle h g lent) st)
     all = desk-quiet (settle h g lent) st free
@@ -169,11 +171,11 @@ settle-facts st h g lent free =
     lists : (not (eqb (length (st .positions)) positionCount) ≡ false) × ((not (eqb (length (st .cash)) cashCount) ≡ false) × (ltb (length lent) stepLimit ≡ false))
     lists = none-hold (not (eqb (length (st .positions)) positionCount)) (not (eqb (length (st .cash)) cashCount) ∷ ltb (length lent) stepLimit ∷ []) (all .0)
 
-    parts : Quiet (deriveConditions rows h g) × Quiet (bookConditions rows (st .positions) (st .cash) h g steps)
-    parts = quiet-both (deriveConditions rows h g) (bookConditions rows (st .positions) (st .cash) h g steps) (all .1 .1)
+    parts : Quiet (deriveConditions (ask rows) h g) × Quiet (bookConditions (ask rows) (st .positions) (st .cash) h g steps)
+    parts = quiet-both (deriveConditions (ask rows) h g) (bookConditions (ask rows) (st .positions) (st .cash) h g steps) (all .1 .1)
 
-    before : Quiet (halvesConditions rows h g) × Quiet (chainConditions (halvesChain rows h g))
-    before = quiet-both (halvesConditions rows h g) (chainConditions (halvesChain rows h g)) (parts .0)
+    before : Quiet (halvesConditions (ask rows) h g) × Quiet (chainConditions (halvesChain (ask rows) h g))
+    before = quiet-both (halvesConditions (ask rows) h g) (chainConditions (halvesChain (ask rows) h g)) (parts .0)
 
     agree : Agree rows h g
     agree = quiet-agree rows h g (before .0)
@@ -181,5 +183,5 @@ settle-facts st h g lent free =
     allowed : Allowed st h g steps
     allowed = quiet-allowed st h g steps (parts .1)
 
-    is : chain rows (h .security) (h .account) (g .account) ≡ chained steps
-    is = quiet-chained (halvesChain rows h g) (before .1)
+    is : chain (ask rows) (h .security) (h .account) (g .account) ≡ chained steps
+    is = quiet-chained (halvesChain (ask rows) h g) (before .1)

@@ -9,6 +9,7 @@ use lib.Dec.{eqb, ltb}
 use Rattle.rules.specs.Types.{Half}
 use Rattle.rules.specs.Tests.{isRow}
 use Rattle.rules.specs.Directory.{Rows, isKind, inBooks}
+use Rattle.rules.specs.Lookups.{ask}
 use Rattle.rules.specs.Booking.{limit, outOfRange, amountOutOfRange}
 use Rattle.rules.specs.Calls.{halfUnknown, halfOutOfRange, halvesDiffer, halvesConditions}
 use Rattle.rules.specs.Demands.{Agree}
@@ -31,30 +32,30 @@ within-ranges x l k m =
 equal : (x y : ℕ) → not (eqb x y) ≡ false → x ≡ y
 equal x y e = eqb-is x y (unnot-false (eqb x y) e)
 
-pub named-security : (r : Rows) (h : Half) → halfUnknown r h ≡ false → isRow (r .securities) (h .security) ≡ true
+pub named-security : (r : Rows) (h : Half) → halfUnknown (ask r) h ≡ false → isRow (r .securities) (h .security) ≡ true
 named-security r h e =
     unnot-false (isRow (r .securities) (h .security))
     (none-hold (not (isRow (r .accounts) (h .account))) (not (isRow (r .csds) (h .counterpart)) ∷ not (isRow (r .securities) (h .security)) ∷ []) e .1 .1)
 
 -- ---- both halves
 module _ (r : Rows) (h g : Half) where
-  pub agree-quiet : Agree r h g → Quiet (halvesConditions r h g)
+  pub agree-quiet : Agree r h g → Quiet (halvesConditions (ask r) h g)
   agree-quiet A =
       let low : 1 ≤ h .quantity = A .quantity .0 in
       let high : h .quantity ≤ limit = A .quantity .1 in
       let most : h .amount ≤ limit = A .amount in
       let quantity : h .quantity ≡ g .quantity = A .sameQuantity in
       let amount : h .amount ≡ g .amount = A .sameAmount in
-      let known = or-false (halfUnknown r h) (halfUnknown r g) (A .delivererNamed) (A .receiverNamed) in
+      let known = or-false (halfUnknown (ask r) h) (halfUnknown (ask r) g) (A .delivererNamed) (A .receiverNamed) in
       let ranges = or-false (halfOutOfRange h) (halfOutOfRange g) (within-ranges h low high most) (within-ranges g (omega arith) (omega arith) (omega arith)) in
       let kinds : (not (isKind (r .accounts) (h .account) 0) || not (isKind (r .accounts) (g .account) 0)) ≡ false = rw (A .deliverer, A .receiver) in
-      let same : halvesDiffer (r .accounts) h g ≡ false
+      let same : halvesDiffer (ask r) h g ≡ false
       = rw (eqb-true (h .security) (g .security) (A .sameSecurity), eqb-true (h .quantity) (g .quantity) quantity, eqb-true (h .amount) (g .amount) amount, A .receiverCsd, A .delivererCsd) in
       (known, (ranges, (kinds, (same, (eqb-false (h .account) (g .account) (A .two), tt)))))
 
-  pub quiet-agree : Quiet (halvesConditions r h g) → Agree r h g
+  pub quiet-agree : Quiet (halvesConditions (ask r) h g) → Agree r h g
   quiet-agree q =
-      let named = or-none (halfUnknown r h) (halfUnknown r g) (q .0) in
+      let named = or-none (halfUnknown (ask r) h) (halfUnknown (ask r) g) (q .0) in
       let ranges = or-none (outOfRange (h .quantity)) (amountOutOfRange (h .amount)) (or-none (halfOutOfRange h) (halfOutOfRange g) (q .1 .0) .0) in
       let kinds = or-none (not (isKind (r .accounts) (h .account) 0)) (not (isKind (r .accounts) (g .account) 0)) (q .1 .1 .0) in
       let receiver = inBooks (r .accounts) (g .account) (h .counterpart) in

@@ -9,7 +9,8 @@ use native.Mathlib.Omega.{arith}
 use lib.Dec.{eqb}
 use Rattle.rules.specs.Types.{Pair, Step}
 use Rattle.rules.specs.Directory.{Rows, noAccount, isKind, uses}
-use Rattle.rules.specs.Chain.{flip, turned, homeOf}
+use Rattle.rules.specs.Lookups.{homeOf}
+use Rattle.rules.specs.Chain.{flip, turned}
 use Rattle.rules.proofs.Basics.{untrue, or-left, or-right, or-false, equal-tests, eqb-false}
 use Rattle.rules.proofs.Facts.{HomePair, AwayPair, Facts}
 use Rattle.rules.proofs.Trail.{outer, Alike, Joints}

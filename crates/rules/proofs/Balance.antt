@@ -25,7 +25,7 @@ use Rattle.rules.proofs.Bookings.{booked-steps, booked-joints, transfer
 
 -- the participants' positions in a security together
 abbrev pub heldSum : Rows → List ℤ → ℕ → ℤ
-heldSum r p s = sum (participants (r .accounts)) (heldIn p s) accountLimit
+heldSum r p s = sum (participants (isKind (r .accounts))) (heldIn p s) accountLimit
 
 -- positions p are in balance over the rows r
 pub record InBalance (r : Rows) (p : List ℤ) : Type 0 where
@@ -33,7 +33,7 @@ pub record InBalance (r : Rows) (p : List ℤ) : Type 0 where
   pub books : (c s : ℕ) → s < securityLimit → sum (λ a. inBooks (r .accounts) a c) (heldIn p s) accountLimit ≡ pos 0
   pub mirrors : (q : Pair) → List·Memᴰ q (r .pairs) → q .omnibus ≢ noAccount → (s : ℕ) → s < securityLimit
       → heldIn p s (q .mirror) +ℤ heldIn p s (q .omnibus) ≡ pos 0
-  pub floor : (a s : ℕ) → a < accountLimit → s < securityLimit → floored (r .accounts) a ≡ true → pos 0 ≤ℤ heldIn p s a
+  pub floor : (a s : ℕ) → a < accountLimit → s < securityLimit → floored (isKind (r .accounts)) a ≡ true → pos 0 ≤ℤ heldIn p s a
   -- a new account or pair finds empty positions
   pub idle : (a s : ℕ) → a < accountLimit → s < securityLimit → live r a ≡ false → heldIn p s a ≡ pos 0
 
@@ -57,10 +57,10 @@ module _ (r : Rows) (F : Facts r) (p : List ℤ) (B : InBalance r p) (x : ℕ) (
       go (yes f) =
           rw (f, eqb-true s s refl)
           (by-the-ends (heldSum r after s) (heldSum r p s) (pick (isKind (r .accounts) x 0) (pos q)) (pick (isKind (r .accounts) z 0) (pos q)) d
-          (booked-joints s q (T .security) (sumOf (participants (r .accounts))) r x z steps (T .trail .small) p (B .size) (λ a b alike. alike .holder) (T .trail .joints)) e)
+          (booked-joints s q (T .security) (sumOf (participants (isKind (r .accounts)))) r x z steps (T .trail .small) p (B .size) (λ a b alike. alike .holder) (T .trail .joints)) e)
       go (no n) =
           rw (eqb-false s t (λ f. n (sym f)))
-          (sum-same (participants (r .accounts)) (participants (r .accounts)) (heldIn after t) (heldIn p t) accountLimit
+          (sum-same (participants (isKind (r .accounts))) (participants (isKind (r .accounts))) (heldIn after t) (heldIn p t) accountLimit
           (λ a l. ap (pick (isKind (r .accounts) a 0)) (moves .otherSecurities a t ht n))
           ∙ sym (+ℤ-idr (heldSum r p t)))
 
@@ -98,7 +98,7 @@ module _ (r : Rows) (F : Facts r) (p : List ℤ) (B : InBalance r p) (x : ℕ) (
           ∙ B .mirrors o m ne s (T .security))
       go (no n) = rw (moves .otherSecurities (o .mirror) t ht n, moves .otherSecurities (o .omnibus) t ht n) (B .mirrors o m ne t ht)
 
-  floor′ : (a t : ℕ) → a < accountLimit → t < securityLimit → floored (r .accounts) a ≡ true → pos 0 ≤ℤ heldIn after t a
+  floor′ : (a t : ℕ) → a < accountLimit → t < securityLimit → floored (isKind (r .accounts)) a ≡ true → pos 0 ≤ℤ heldIn after t a
   floor′ a t ha ht f = go (ℕ-discrete t s)
     where
       meet : Fate a steps → pos 0 ≤ℤ heldIn after s a

@@ -12,7 +12,9 @@ use lib.Dec.{eqb}
 use lib.ListN.{length}
 use Rattle.rules.specs.Types.{Account, Pair}
 use Rattle.rules.specs.Tests.{any, isFull, lowest}
-use Rattle.rules.specs.Directory.{Rows, securityLimit, accountLimit, noAccount, isKind, inBooks, uses, isPaired, pairRefusal, accountConditions, pairConditions, Row, csdRow, securityRow, accountRow, pairRow, linkRow, rowConditions}
+use Rattle.rules.specs.Directory.{Rows, securityLimit, accountLimit, noAccount, isKind, inBooks, uses, isPaired}
+use Rattle.rules.specs.Lookups.{ask}
+use Rattle.rules.specs.Entries.{pairRefusal, accountConditions, pairConditions, Row, csdRow, securityRow, accountRow, pairRow, linkRow, rowConditions}
 use Rattle.rules.specs.Booking.{heldIn, floored, participants, sum}
 use Rattle.rules.specs.Demands.{withRow}
 use Rattle.rules.proofs.Basics.{or-none, or-false, eqb-false, leb-not, none-any, quiet}
@@ -25,13 +27,13 @@ use Rattle.rules.proofs.NewPairs.{NewPair, accepted-pair}
 use Rattle.rules.proofs.Balance.{heldSum, InBalance}
 
 -- ---- an account
-module _ (r : Rows) (F : Facts r) (p : List ℤ) (B : InBalance r p) (x : Account) (ok : lowest (accountConditions (r .csds) (r .accounts) x) ≡ 0) where
+module _ (r : Rows) (F : Facts r) (p : List ℤ) (B : InBalance r p) (x : Account) (ok : lowest (accountConditions (ask r) x) ≡ 0) where
   abbrev new : ℕ
   new = length (r .accounts)
 
   room : new < accountLimit
   unfolding isFull
-  room = leb-not accountLimit new (quiet (accountConditions (r .csds) (r .accounts) x) refl ok .0)
+  room = leb-not accountLimit new (quiet (accountConditions (ask r) x) refl ok .0)
 
   unpaired : (q : Pair) → List·Memᴰ q (r .pairs) → uses new q ≡ false
   unpaired q m =
@@ -64,9 +66,9 @@ module _ (r : Rows) (F : Facts r) (p : List ℤ) (B : InBalance r p) (x : Accoun
 
   account-supply : (s : ℕ) → s < securityLimit
       → heldSum (withRow (accountRow x) r) p s ≡ heldSum r p s
-  account-supply s hs = sums (participants (r .accounts ++ (x ∷ []))) (participants (r .accounts)) (λ a n. kind-before (r .accounts) x a 0 n) s hs
+  account-supply s hs = sums (participants (isKind (r .accounts ++ (x ∷ [])))) (participants (isKind (r .accounts))) (λ a n. kind-before (r .accounts) x a 0 n) s hs
 
-  floor′ : (a s : ℕ) → a < accountLimit → s < securityLimit → floored (r .accounts ++ (x ∷ [])) a ≡ true → pos 0 ≤ℤ heldIn p s a
+  floor′ : (a s : ℕ) → a < accountLimit → s < securityLimit → floored (isKind (r .accounts ++ (x ∷ []))) a ≡ true → pos 0 ≤ℤ heldIn p s a
   floor′ a s ha hs f = go (ℕ-discrete a new)
     where
       go : Dec (a ≡ new) → pos 0 ≤ℤ heldIn p s a
@@ -91,7 +93,7 @@ module _ (r : Rows) (F : Facts r) (p : List ℤ) (B : InBalance r p) (x : Accoun
       }
 
 -- ---- a pair
-module _ (r : Rows) (F : Facts r) (p : List ℤ) (B : InBalance r p) (x : Pair) (ok : lowest (pairConditions (r .csds) (r .accounts) (r .pairs) x) ≡ 0) where
+module _ (r : Rows) (F : Facts r) (p : List ℤ) (B : InBalance r p) (x : Pair) (ok : lowest (pairConditions (ask r) x) ≡ 0) where
   entered : NewPair r (r .pairs) x
   unfolding pairRefusal
   entered = accepted-pair r (r .pairs) x ok

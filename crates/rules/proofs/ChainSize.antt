@@ -7,10 +7,11 @@ use Prim.Native.Nat.{ℕ, suc, _-_, _≤_}
 use native.Mathlib.Omega.{arith}
 use lib.Dec.{eqb}
 use lib.ListN.{length, length-append}
-use Rattle.rules.specs.Types.{Csd, Pair, Link, Step, Join, Meeting, Issuers, Externals}
-use Rattle.rules.specs.Directory.{Rows, pairOf}
+use Rattle.rules.specs.Types.{Pair, Step, Join, Meeting, Issuers, Externals}
+use Rattle.rules.specs.Directory.{Rows}
 use Rattle.rules.specs.Walks.{sideLimit, defaultHop, directedHop, defaultWalk, directedWalk}
-use Rattle.rules.specs.Chain.{Route, sides, apart, upTo, Climb, climbed, unpaired, over, stepUp, climb, turned, topSteps, lastOf, Chain, chained, unchained, linkUp, along, homeOf, route, chain, stepLimit}
+use Rattle.rules.specs.Lookups.{homeOf, Lookups, ask}
+use Rattle.rules.specs.Chain.{Route, sides, apart, upTo, Climb, climbed, unpaired, over, stepUp, climb, turned, topSteps, lastOf, Chain, chained, unchained, linkUp, along, route, chain, stepLimit}
 use Rattle.rules.proofs.Runs.{walk-short}
 use Rattle.rules.proofs.Routing.{Routed, oneCsd, sharing, directed, reversed, twoIssuers, twoExternals, refused, routed}
 use Rattle.rules.proofs.Turning.{turned-length}
@@ -29,17 +30,17 @@ up-to-short m (c ∷ p) = go (eqb c m) (up-to-short m p)
     go true below = omega arith
     go false below = omega arith
 
-module _ (cs : List Csd) (ls : List Link) (s : ℕ) where
-  by-default : (c : ℕ) → length (defaultWalk cs ls s c .path) ≤ sideLimit
-  by-default c = walk-short (defaultHop cs ls s) sideLimit c
+module _ (K : Lookups) (s : ℕ) where
+  by-default : (c : ℕ) → length (defaultWalk K s c .path) ≤ sideLimit
+  by-default c = walk-short (defaultHop K s) sideLimit c
 
-  by-directed : (t c : ℕ) → length (directedWalk cs ls s t c .path) ≤ sideLimit
-  by-directed t c = walk-short (directedHop cs ls s t) sideLimit c
+  by-directed : (t c : ℕ) → length (directedWalk K s t c .path) ≤ sideLimit
+  by-directed t c = walk-short (directedHop K s t) sideLimit c
 
-  cut : (m c : ℕ) → length (upTo m (defaultWalk cs ls s c .path)) ≤ sideLimit
-  cut m c = omega (arith, up-to-short m (defaultWalk cs ls s c .path), by-default c)
+  cut : (m c : ℕ) → length (upTo m (defaultWalk K s c .path)) ≤ sideLimit
+  cut m c = omega (arith, up-to-short m (defaultWalk K s c .path), by-default c)
 
-  few : (D R : ℕ) (o : Route) → Routed cs ls s D R o → Few o
+  few : (D R : ℕ) (o : Route) → Routed K s D R o → Few o
   few D R o (oneCsd e) = (omega arith, omega arith)
   few D R o (sharing m ne e) = (cut m D, cut m R)
   few D R o (directed ne n e) = (by-directed R D, omega arith)
@@ -53,24 +54,24 @@ abbrev Climbing : List ℕ → Climb → Type 0
 Climbing p (climbed xs a) = length xs ≤ length p - 1
 Climbing p unpaired = Unit {0}
 
-climb-short : (ps : List Pair) (p : List ℕ) (a : ℕ) → Climbing p (climb ps p a)
+climb-short : (K : Lookups) (p : List ℕ) (a : ℕ) → Climbing p (climb K p a)
 unfolding climb
-climb-short ps [] a = omega arith
-climb-short ps (c ∷ []) a = omega arith
-climb-short ps (c ∷ n ∷ p) a = go (pairOf ps c n) (λ b. climb-short ps (n ∷ p) b)
+climb-short K [] a = omega arith
+climb-short K (c ∷ []) a = omega arith
+climb-short K (c ∷ n ∷ p) a = go (K .pair c n) (λ b. climb-short K (n ∷ p) b)
   where
     up : (x : Step) (k : Climb) → Climbing (n ∷ p) k → Climbing (c ∷ n ∷ p) (stepUp x k)
     up x (climbed xs b) l = omega arith
     up x unpaired l = tt
 
-    go : (o : Option Pair) → ((b : ℕ) → Climbing (n ∷ p) (climb ps (n ∷ p) b)) → Climbing (c ∷ n ∷ p) (over c a o (λ b. climb ps (n ∷ p) b))
+    go : (o : Option Pair) → ((b : ℕ) → Climbing (n ∷ p) (climb K (n ∷ p) b)) → Climbing (c ∷ n ∷ p) (over c a o (λ b. climb K (n ∷ p) b))
     go none below = tt
-    go (some q) below = up _ (climb ps (n ∷ p) (q .omnibus)) (below (q .omnibus))
+    go (some q) below = up _ (climb K (n ∷ p) (q .omnibus)) (below (q .omnibus))
 
-top-short : (ls : List Link) (s : ℕ) (j : Join) (i k a b : ℕ) → length (topSteps ls s j i k a b) ≤ 2
-top-short ls s Meeting i k a b = omega arith
-top-short ls s Issuers i k a b = omega arith
-top-short ls s Externals i k a b = omega arith
+top-short : (K : Lookups) (s : ℕ) (j : Join) (i k a b : ℕ) → length (topSteps K s j i k a b) ≤ 2
+top-short K s Meeting i k a b = omega arith
+top-short K s Issuers i k a b = omega arith
+top-short K s Externals i k a b = omega arith
 
 -- what holds of a chain that two sides make
 abbrev Counted : Chain → Type 0
@@ -84,15 +85,15 @@ link-counted top p q (climbed xs a) unpaired t f g u v = (omega arith, omega ari
 link-counted top p q (climbed xs a) (climbed ys b) t f g u v =
     omega (arith, length-append xs (top a b ++ turned ys), length-append (top a b) (turned ys), turned-length ys, t a b)
 
-along-counted : (r : Rows) (s a b : ℕ) (o : Route) → Few o → Counted (along (r .pairs) (r .links) s a b o)
+along-counted : (r : Rows) (s a b : ℕ) (o : Route) → Few o → Counted (along (ask r) s a b o)
 along-counted r s a b (apart n) f = (f .0, omega (arith, f .1))
 along-counted r s a b (sides j p q) f =
-    link-counted (λ x y. topSteps (r .links) s j (lastOf p) (lastOf q) x y) p q (climb (r .pairs) p a) (climb (r .pairs) q b) (λ x y. top-short (r .links) s j (lastOf p) (lastOf q) x y)
-    (f .0) (f .1) (climb-short (r .pairs) p a) (climb-short (r .pairs) q b)
+    link-counted (λ x y. topSteps (ask r) s j (lastOf p) (lastOf q) x y) p q (climb (ask r) p a) (climb (ask r) q b) (λ x y. top-short (ask r) s j (lastOf p) (lastOf q) x y)
+    (f .0) (f .1) (climb-short (ask r) p a) (climb-short (ask r) q b)
 
-counted : (r : Rows) (s a b : ℕ) → Counted (chain r s a b)
+counted : (r : Rows) (s a b : ℕ) → Counted (chain (ask r) s a b)
 unfolding chain
-counted r s a b = along-counted r s a b (route (r .csds) (r .links) s D R) (few (r .csds) (r .links) s D R (route (r .csds) (r .links) s D R) (routed (r .csds) (r .links) s D R))
+counted r s a b = along-counted r s a b (route (ask r) s D R) (few (ask r) s D R (route (ask r) s D R) (routed (ask r) s D R))
   where
     D : ℕ
     D = homeOf (r .accounts) a
@@ -100,8 +101,8 @@ counted r s a b = along-counted r s a b (route (r .csds) (r .links) s D R) (few 
     R : ℕ
     R = homeOf (r .accounts) b
 
-pub chain-few : (r : Rows) (s a b : ℕ) (steps : List Step) → chain r s a b ≡ chained steps → length steps ≤ stepLimit
+pub chain-few : (r : Rows) (s a b : ℕ) (steps : List Step) → chain (ask r) s a b ≡ chained steps → length steps ≤ stepLimit
 chain-few r s a b steps e = subst Counted e (counted r s a b)
 
-pub chain-number : (r : Rows) (s a b n : ℕ) → chain r s a b ≡ unchained n → (14 ≤ n) × (n ≤ 18)
+pub chain-number : (r : Rows) (s a b n : ℕ) → chain (ask r) s a b ≡ unchained n → (14 ≤ n) × (n ≤ 18)
 chain-number r s a b n e = subst Counted e (counted r s a b)

@@ -6,7 +6,8 @@ use mathlib.Core.List.{List, [], _∷_, _++_, List·Memᴰ, List·Memᴰ·append
 use Prim.Native.Nat.{ℕ}
 use Rattle.rules.specs.Types.{Step, Inside, Outside, Join}
 use Rattle.rules.specs.Directory.{Rows, external, isKind}
-use Rattle.rules.specs.Chain.{step, turned, lastOf, chained, homeOf, chain}
+use Rattle.rules.specs.Lookups.{homeOf, ask}
+use Rattle.rules.specs.Chain.{step, turned, lastOf, chained, chain}
 use Rattle.rules.specs.Relations.{Joins, same, meets, ahead, back, issuers, externals, Meets, Climbs, Tops, oneStep, issuanceSteps, noStep, ChainIs}
 use Rattle.rules.proofs.Facts.{Facts}
 use Rattle.rules.proofs.Trail.{Trail}
@@ -73,5 +74,5 @@ module _ (r : Rows) (F : Facts r) (s a b : ℕ) (ka : isKind (r .accounts) a 0 �
       (side b kb (k .down) (f .1 .starts) (k .downSteps) (k .toBelow) (k .climbsDown)) f (k .tops))
 
 pub chain-trail : (r : Rows) → Facts r → (s a b : ℕ) (steps : List Step) → isKind (r .accounts) a 0 ≡ true → isKind (r .accounts) b 0 ≡ true → a ≢ b
-    → chain r s a b ≡ chained steps → Trail r a steps b
+    → chain (ask r) s a b ≡ chained steps → Trail r a steps b
 chain-trail r F s a b steps ka kb ne e = trail r F s a b ka kb ne steps (chain-given-is r F s a b steps e)

@@ -5,6 +5,7 @@ use mathlib.Core.Option.{Option, none, some}
 use Prim.Native.Nat.{ℕ}
 use Rattle.rules.specs.Types.{Pair, Step}
 use Rattle.rules.specs.Directory.{Rows, pairOf}
+use Rattle.rules.specs.Lookups.{ask}
 use Rattle.rules.specs.Chain.{Climb, climbed, unpaired, step, stepUp, over, climb}
 use Rattle.rules.specs.Relations.{Climbs, stands, rises}
 use Rattle.rules.proofs.Facts.{Facts}
@@ -12,7 +13,7 @@ use Rattle.rules.proofs.Pairs.{found-pair, pair-found}
 use Rattle.rules.proofs.Paths.{Starts}
 
 module _ (r : Rows) where
-  pub climbs-climb : Facts r → (path : List ℕ) (a : ℕ) (xs : List Step) (b : ℕ) → Climbs (r .pairs) path a xs b → climb (r .pairs) path a ≡ climbed xs b
+  pub climbs-climb : Facts r → (path : List ℕ) (a : ℕ) (xs : List Step) (b : ℕ) → Climbs (r .pairs) path a xs b → climb (ask r) path a ≡ climbed xs b
   unfolding climb
   climbs-climb F path a xs b stands = refl
   climbs-climb F path a xs b (rises {c = c} {n = n} {path = rest} {xs = ys} p m e g w) =
@@ -23,7 +24,7 @@ module _ (r : Rows) where
   Climbing path a (climbed xs b) = Climbs (r .pairs) path a xs b
   Climbing path a unpaired = Unit {0}
 
-  from : (c : ℕ) (path : List ℕ) (a : ℕ) → Climbing (c ∷ path) a (climb (r .pairs) (c ∷ path) a)
+  from : (c : ℕ) (path : List ℕ) (a : ℕ) → Climbing (c ∷ path) a (climb (ask r) (c ∷ path) a)
   unfolding climb
   from c [] a = stands
   from c (n ∷ path) a = go (pairOf (r .pairs) c n) refl (λ b. from n path b)
@@ -33,10 +34,10 @@ module _ (r : Rows) where
       up p q (climbed xs b) w = rises p (q .0) (q .1) (q .2) w
       up p q unpaired w = tt
 
-      go : (o : Option Pair) → pairOf (r .pairs) c n ≡ o → ((b : ℕ) → Climbing (n ∷ path) b (climb (r .pairs) (n ∷ path) b))
-          → Climbing (c ∷ n ∷ path) a (over c a o (λ b. climb (r .pairs) (n ∷ path) b))
+      go : (o : Option Pair) → pairOf (r .pairs) c n ≡ o → ((b : ℕ) → Climbing (n ∷ path) b (climb (ask r) (n ∷ path) b))
+          → Climbing (c ∷ n ∷ path) a (over c a o (λ b. climb (ask r) (n ∷ path) b))
       go none e below = tt
-      go (some p) e below = up p (found-pair (r .pairs) c n p e) (climb (r .pairs) (n ∷ path) (p .omnibus)) (below (p .omnibus))
+      go (some p) e below = up p (found-pair (r .pairs) c n p e) (climb (ask r) (n ∷ path) (p .omnibus)) (below (p .omnibus))
 
-  pub climb-climbs : (c : ℕ) (path : List ℕ) → Starts c path → (a : ℕ) → Climbing path a (climb (r .pairs) path a)
+  pub climb-climbs : (c : ℕ) (path : List ℕ) → Starts c path → (a : ℕ) → Climbing path a (climb (ask r) path a)
   climb-climbs c path t a = rw (t .1) (from c (t .0) a)

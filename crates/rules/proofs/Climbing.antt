@@ -9,7 +9,8 @@ use native.Mathlib.Omega.{arith}
 use Rattle.rules.specs.Types.{Pair, Step}
 use Rattle.rules.specs.Tests.{any}
 use Rattle.rules.specs.Directory.{Rows, noAccount, external, isKind, inBooks, uses}
-use Rattle.rules.specs.Chain.{step, flip, lastOf, homeOf}
+use Rattle.rules.specs.Lookups.{homeOf}
+use Rattle.rules.specs.Chain.{step, flip, lastOf}
 use Rattle.rules.specs.Booking.{floored}
 use Rattle.rules.specs.Relations.{Climbs, stands, rises}
 use Rattle.rules.proofs.Basics.{clash, or-left, or-right, or-false, any-true}
@@ -37,7 +38,7 @@ fair-flip r x f = record { debits = f .credits; credits = f .debits; differ = λ
 -- the account that stands for a side in the CSD: hex FFFF where that is external
 pub record Held (r : Rows) (c a : ℕ) : Type 0 where
   pub stands : external (r .csds) c ≡ false → Stands r c a
-  pub holds : external (r .csds) c ≡ false → floored (r .accounts) a ≡ true
+  pub holds : external (r .csds) c ≡ false → floored (isKind (r .accounts)) a ≡ true
   pub away : external (r .csds) c ≡ true → a ≡ noAccount
 
 -- it is the account where the side started, or the omnibus of a pair whose investor is among these CSDs
@@ -60,7 +61,7 @@ module _ (r : Rows) (F : Facts r) where
   mirror-stands p m = record { books = F .pairs p m .mirrorBooks; alive = paired-alive p m (p .mirror) (uses-mirror p) }
 
   -- what stands for a side is no mirror and no inter-CSD account
-  held-no-mirror : (p : Pair) → List·Memᴰ p (r .pairs) → (a : ℕ) → floored (r .accounts) a ≡ true → a ≢ p .mirror
+  held-no-mirror : (p : Pair) → List·Memᴰ p (r .pairs) → (a : ℕ) → floored (isKind (r .accounts)) a ≡ true → a ≢ p .mirror
   held-no-mirror p m a f = elim (pair-cases r p (F .pairs p m)) [
     | inl h ↦ home (h .mirrorKind)
     | inr h ↦ floored-not-outer (r .accounts) a (p .mirror) f (or-left (isKind (r .accounts) (p .mirror) 3) (isKind (r .accounts) (p .mirror) 4) (h .mirrorKind))
@@ -68,7 +69,7 @@ module _ (r : Rows) (F : Facts r) where
     where
       home : isKind (r .accounts) (p .mirror) 2 ≡ true → a ≢ p .mirror
       home k e =
-          clash (floored (r .accounts) (p .mirror)) (rw e at f)
+          clash (floored (isKind (r .accounts)) (p .mirror)) (rw e at f)
           (or-false (isKind (r .accounts) (p .mirror) 0) (isKind (r .accounts) (p .mirror) 1)
           (kind-other (r .accounts) (p .mirror) 2 0 (omega arith) k) (kind-other (r .accounts) (p .mirror) 2 1 (omega arith) k))
 

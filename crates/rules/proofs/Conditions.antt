@@ -112,3 +112,17 @@ chained-quiet x xs e = rw e tt
 pub chain-ascends : (lo hi : ℕ) (x : Chain) → lo ≤ hi → ((n : ℕ) → x ≡ unchained n → (lo ≤ n) × (n ≤ hi)) → ascending lo (chainConditions x) hi ≡ true
 chain-ascends lo hi (chained xs) l h = leb-true lo hi l
 chain-ascends lo hi (unchained n) l h = and-true (leb lo n) (leb n hi) (leb-true lo n (h n refl .0)) (leb-true n hi (h n refl .1))
+
+-- ---- two lists of conditions: the first that applies decides
+pub lowest-first : (cs ds : List Condition) → (lowest cs ≡ 0 → ⊥) → lowest (cs ++ ds) ≡ lowest cs
+lowest-first [] ds z = absurd (z refl)
+lowest-first (x ∷ cs) ds z = go (x .holds) z (λ w. lowest-first cs ds w)
+  where
+    go : (b : Bool) → (cond b (x .number) (lowest cs) ≡ 0 → ⊥) → ((lowest cs ≡ 0 → ⊥) → lowest (cs ++ ds) ≡ lowest cs)
+        → cond b (x .number) (lowest (cs ++ ds)) ≡ cond b (x .number) (lowest cs)
+    go true z rest = refl
+    go false z rest = rest z
+
+pub lowest-then : (cs ds : List Condition) → Quiet cs → lowest (cs ++ ds) ≡ lowest ds
+lowest-then [] ds q = refl
+lowest-then (x ∷ cs) ds q = rw (q .0) (lowest-then cs ds (q .1))

@@ -6,7 +6,9 @@ use Prim.Native.Nat.{ℕ, _≤_}
 use lib.ListN.{length}
 use Rattle.rules.specs.Types.{Half, Step, Answer, Chained}
 use Rattle.rules.specs.Tests.{lowest, _when_}
-use Rattle.rules.specs.Directory.{Rows, rowsOf, sound}
+use Rattle.rules.specs.Directory.{Rows, rowsOf}
+use Rattle.rules.specs.Entries.{sound}
+use Rattle.rules.specs.Lookups.{ask}
 use Rattle.rules.specs.Chain.{Chain, chained, stepsOf, chainConditions, stepLimit}
 use Rattle.rules.specs.Calls.{Store, Call, derive, Outcome, desk, misfit, deskConditions, halvesConditions, halvesChain, success, written, writtenFor, isAccepted, countOf}
 use Rattle.rules.specs.Demands.{ChainOfHalves, Admitted, Returns, Derives}
@@ -32,7 +34,7 @@ module _ (st : Store) (h g : Half) (lent : List Step) where
   abbrev rows : Rows
   rows = rowsOf (st .directory)
 
-  derived : (steps : List Step) → lowest (deskConditions (derive h g lent) st) ≡ 0 → halvesChain rows h g ≡ chained steps
+  derived : (steps : List Step) → lowest (deskConditions (derive h g lent) st) ≡ 0 → halvesChain (ask rows) h g ≡ chained steps
       → Returns (desk (derive h g lent) st) (Chained (length steps)) steps lent
   derived steps z e =
       returns (derive h g lent) st (Chained (length steps)) steps lent z
@@ -48,31 +50,31 @@ module _ (st : Store) (h g : Half) (lent : List Step) where
         one = chain-one rows facts (h .security) (h .account) (g .account);
       }
     where
-      before : Quiet (3 when misfit (derive h g lent) st ∷ 4 when not (sound (st .directory)) ∷ halvesConditions rows h g)
-      before = quiet (3 when misfit (derive h g lent) st ∷ 4 when not (sound (st .directory)) ∷ halvesConditions rows h g) refl admitted
+      before : Quiet (3 when misfit (derive h g lent) st ∷ 4 when not (sound (st .directory)) ∷ halvesConditions (ask rows) h g)
+      before = quiet (3 when misfit (derive h g lent) st ∷ 4 when not (sound (st .directory)) ∷ halvesConditions (ask rows) h g) refl admitted
 
       facts : Facts rows
       facts = sound-gives (st .directory) (unnot-false (sound (st .directory)) (before .1 .0))
 
-      given : (steps : List Step) → ChainOfHalves st h g steps → halvesChain rows h g ≡ chained steps
+      given : (steps : List Step) → ChainOfHalves st h g steps → halvesChain (ask rows) h g ≡ chained steps
       given steps is = chain-is-given rows facts (h .security) (h .account) (g .account) steps is
 
-      unrefused : (steps : List Step) → halvesChain rows h g ≡ chained steps → lowest (deskConditions (derive h g lent) st) ≡ 0
+      unrefused : (steps : List Step) → halvesChain (ask rows) h g ≡ chained steps → lowest (deskConditions (derive h g lent) st) ≡ 0
       unrefused steps e =
           loud (deskConditions (derive h g lent) st) (
             before .0,
             (
               before .1 .0,
-              both-quiet (halvesConditions rows h g) (chainConditions (halvesChain rows h g)) (before .1 .1) (chained-quiet (halvesChain rows h g) steps e),
+              both-quiet (halvesConditions (ask rows) h g) (chainConditions (halvesChain (ask rows) h g)) (before .1 .1) (chained-quiet (halvesChain (ask rows) h g) steps e),
             ),
           )
 
       answered : (k : ℕ) → desk (derive h g lent) st .answer ≡ Chained k → lowest (deskConditions (derive h g lent) st) ≡ 0
           → (steps : List Step) × ChainOfHalves st h g steps × (k ≡ length steps) × Returns (desk (derive h g lent) st) (Chained k) steps lent
       answered k e z =
-          let steps : List Step = stepsOf (halvesChain rows h g) in
+          let steps : List Step = stepsOf (halvesChain (ask rows) h g) in
           let all : Quiet (deskConditions (derive h g lent) st) = desk-quiet (derive h g lent) st z in
-          let is : halvesChain rows h g ≡ chained steps = quiet-chained (halvesChain rows h g) (quiet-both (halvesConditions rows h g) (chainConditions (halvesChain rows h g)) (all .1 .1) .1) in
+          let is : halvesChain (ask rows) h g ≡ chained steps = quiet-chained (halvesChain (ask rows) h g) (quiet-both (halvesConditions (ask rows) h g) (chainConditions (halvesChain (ask rows) h g)) (all .1 .1) .1) in
           let it : Returns (desk (derive h g lent) st) (Chained (length steps)) steps lent = derived steps z is in
           let same : k ≡ length steps = ap countOf (sym e ∙ it .answers) in
           (steps, chain-given-is rows facts (h .security) (h .account) (g .account) steps is, same, rw same it)

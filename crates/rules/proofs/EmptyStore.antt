@@ -5,7 +5,7 @@ use Prim.Native.Nat.{ℕ, zero, suc, _<_}
 use lib.IntN.{pos}
 use lib.Signed.{≤ℤ-refl}
 use lib.ListN.{length, getD}
-use Rattle.rules.specs.Directory.{inBooks, securityLimit, accountLimit}
+use Rattle.rules.specs.Directory.{inBooks, securityLimit, accountLimit, isKind}
 use Rattle.rules.specs.Booking.{cashCount, positionCount, position, balance, place, heldIn, cashOn, everyAccount, participants}
 use Rattle.rules.specs.Calls.{zeros}
 use Rattle.rules.specs.Demands.{noRows}
@@ -43,7 +43,7 @@ empty-balance =
     }
 
 pub empty-supply : (s : ℕ) → s < securityLimit → heldSum noRows (zeros positionCount) s ≡ pos 0
-empty-supply s hs = sum-zero (participants []) (heldIn (zeros positionCount) s) accountLimit (λ a l. no-units positionCount s a)
+empty-supply s hs = sum-zero (participants (isKind [])) (heldIn (zeros positionCount) s) accountLimit (λ a l. no-units positionCount s a)
 
 pub empty-funds : Funded (zeros cashCount)
 empty-funds = record { size = zeros-length cashCount; floor = λ a ha. rw (no-cents cashCount a) (≤ℤ-refl (pos 0)) }

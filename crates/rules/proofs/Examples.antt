@@ -5,6 +5,8 @@ use mathlib.Core.List.{[], _∷_, map}
 use Rattle.rules.specs.Tests.{isRow, isFull}
 use Rattle.rules.specs.Identifiers.{isBic, sameBic, isIsin, sameIsin, spread, alternating, isinSum, isinChecks}
 use Rattle.rules.specs.Directory
+use Rattle.rules.specs.Lookups
+use Rattle.rules.specs.Entries
 use Rattle.rules.specs.Walks.{defaultHop, directedHop, walk}
 use Rattle.rules.specs.Chain
 use Rattle.rules.specs.Booking
@@ -20,17 +22,17 @@ isin-examples = refl
 
 -- the starred chains, and the one that stands behind them, collected
 pub chains : map derived examples ≡ map (λ (e : Example). e .gives) examples
-unfolding examples Directory.external Directory.pairOf Directory.hasIssuer Directory.hasLinkTo Directory.issuerLink Directory.defaultLink defaultHop directedHop walk Chain.isNamed Chain.firstShared Chain.upTo Chain.route Chain.climb Chain.turned Chain.lastOf Chain.issuance Chain.homeOf Chain.chain
+unfolding examples Directory.external Directory.pairOf Directory.hasIssuer Directory.hasLinkTo Directory.issuerLink Directory.defaultLink defaultHop directedHop walk Chain.isNamed Chain.firstShared Chain.upTo Chain.route Chain.climb Chain.turned Chain.lastOf Lookups.issuance Lookups.homeOf Chain.chain
 chains = refl
 
 -- each of these directories is sound
-pub sound-examples : map (λ (e : Example). Directory.soundRows (drawn (e .links))) examples ≡ map (λ (e : Example). true) examples
-unfolding examples isRow isFull isBic sameBic isIsin sameIsin spread alternating isinSum isinChecks Directory.external Directory.isKind Directory.inBooks Directory.isJoined Directory.isPaired Directory.hasLink Directory.hasIssuer Directory.hasInvestor Directory.hasLinkTo Directory.bicEntered Directory.csdRefusal Directory.isinEntered Directory.securityRefusal Directory.accountRefusal Directory.pairRefusal Directory.linkRefusal Directory.csdsSound Directory.securitiesSound Directory.accountsSound Directory.pairsSound Directory.linksSound Directory.soundRows
+pub sound-examples : map (λ (e : Example). Entries.soundRows (drawn (e .links))) examples ≡ map (λ (e : Example). true) examples
+unfolding examples isRow isFull isBic sameBic isIsin sameIsin spread alternating isinSum isinChecks Directory.external Directory.isKind Directory.inBooks Directory.isJoined Directory.isPaired Directory.hasLink Directory.hasIssuer Directory.hasInvestor Directory.hasLinkTo Directory.bicEntered Entries.csdRefusal Directory.isinEntered Entries.securityRefusal Entries.accountRefusal Entries.pairRefusal Entries.linkRefusal Entries.csdsSound Entries.securitiesSound Entries.accountsSound Entries.pairsSound Entries.linksSound Entries.soundRows
 sound-examples = refl
 
 -- the sample run's thirteen answers, the positions that it leaves, and the text that it prints
 sample : (answersOf (Calls.run sampleCalls .items) ≡ sampleAnswers) × (firstPositions (Calls.run sampleCalls .store .positions) ≡ samplePositions) × (Stream.transcript sampleInput ≡ sampleOutput)
-unfolding sampleCalls sampleAnswers samplePositions isRow isFull isBic sameBic isIsin sameIsin spread alternating isinSum isinChecks defaultHop directedHop walk Directory.external Directory.isKind Directory.inBooks Directory.pairOf Directory.isJoined Directory.isPaired Directory.hasLink Directory.hasIssuer Directory.hasInvestor Directory.hasLinkTo Directory.issuerLink Directory.defaultLink Directory.bicEntered Directory.csdRefusal Directory.isinEntered Directory.securityRefusal Directory.accountRefusal Directory.pairRefusal Directory.linkRefusal Directory.emptyDirectory Directory.csdsSound Directory.securitiesSound Directory.accountsSound Directory.pairsSound Directory.linksSound Directory.withinLimits Directory.soundRows Directory.sound Chain.isNamed Chain.firstShared Chain.upTo Chain.route Chain.climb Chain.turned Chain.lastOf Chain.issuance Chain.homeOf Chain.chain Booking.beyond Booking.position Booking.balance Booking.addUnits Booking.addCents Booking.moved Booking.booked Booking.unitsShort Booking.unitsBeyond Booking.cashShort Booking.cashBeyond Booking.paid Booking.paymentBeyond Booking.contra Booking.moveChain Booking.sum Calls.misfit Calls.desk Calls.zeros Calls.emptyStore sampleInput sampleOutput Stream.numberAt Stream.callOf Stream.nextOf Stream.digits Stream.signed Stream.stepLine Stream.stepLines Stream.answerText Stream.said Stream.totalLine Stream.totalLines Stream.cashLine Stream.ending Stream.linesFrom Stream.transcript
+unfolding sampleCalls sampleAnswers samplePositions isRow isFull isBic sameBic isIsin sameIsin spread alternating isinSum isinChecks defaultHop directedHop walk Directory.external Directory.isKind Directory.inBooks Directory.pairOf Directory.isJoined Directory.isPaired Directory.hasLink Directory.hasIssuer Directory.hasInvestor Directory.hasLinkTo Directory.issuerLink Directory.defaultLink Directory.bicEntered Entries.csdRefusal Directory.isinEntered Entries.securityRefusal Entries.accountRefusal Entries.pairRefusal Entries.linkRefusal Entries.emptyDirectory Entries.csdsSound Entries.securitiesSound Entries.accountsSound Entries.pairsSound Entries.linksSound Entries.withinLimits Entries.soundRows Entries.sound Chain.isNamed Chain.firstShared Chain.upTo Chain.route Chain.climb Chain.turned Chain.lastOf Lookups.issuance Lookups.homeOf Chain.chain Booking.beyond Booking.position Booking.balance Booking.addUnits Booking.addCents Booking.moved Booking.booked Booking.unitsShort Booking.unitsBeyond Booking.cashShort Booking.cashBeyond Booking.paid Booking.paymentBeyond Booking.contra Booking.moveChain Booking.sum Calls.misfit Calls.desk Calls.zeros Calls.emptyStore sampleInput sampleOutput Stream.numberAt Stream.callOf Stream.nextOf Stream.digits Stream.signed Stream.stepLine Stream.stepLines Stream.answerText Stream.said Stream.totalLine Stream.totalLines Stream.cashLine Stream.ending Stream.linesFrom Stream.transcript
 sample = (refl, refl, refl)
 
 pub sample-answers : answersOf (Calls.run sampleCalls .items) ≡ sampleAnswers

@@ -7,8 +7,9 @@ use native.Mathlib.Omega.{arith}
 use lib.Dec.{leb}
 use Rattle.rules.specs.Types.{Account, Pair, Link, Directory}
 use Rattle.rules.specs.Tests.{lowest}
-use Rattle.rules.specs.Directory as Entry
-use Rattle.rules.specs.Directory.{Rows, Row, csdRow, securityRow, accountRow, pairRow, linkRow, rowsOf, rowConditions, addRow, csdLimit, securityLimit, accountLimit, pairLimit, linkLimit, csdsSound, securitiesSound, accountsSound, pairsSound, linksSound, withinLimits, soundRows, sound}
+use Rattle.rules.specs.Entries as Entry
+use Rattle.rules.specs.Directory.{Rows, rowsOf, csdLimit, securityLimit, accountLimit, pairLimit, linkLimit}
+use Rattle.rules.specs.Entries.{Row, csdRow, securityRow, accountRow, pairRow, linkRow, rowConditions, addRow, csdsSound, securitiesSound, accountsSound, pairsSound, linksSound, withinLimits, soundRows, sound}
 use Rattle.rules.specs.Demands.{withRow}
 use Rattle.rules.proofs.Basics.{and-both, and-true, leb-true}
 use Rattle.rules.proofs.Tables.{Sized, Room, room, added-rows}

@@ -6,7 +6,8 @@ use mathlib.Core.List.{List, [], _∷_, List·Memᴰ, List·Memᴰ·head, Memᴰ
 use Prim.Native.Nat.{ℕ, _<_}
 use lib.IntN.{ℤ, pos, _+ℤ_, +ℤ-idr}
 use Rattle.rules.specs.Types.{Pair, Answer, Refused}
-use Rattle.rules.specs.Directory.{Rows, rowsOf, csdRow, securityRow, accountRow, pairRow, linkRow, securityLimit}
+use Rattle.rules.specs.Directory.{Rows, rowsOf, securityLimit}
+use Rattle.rules.specs.Entries.{csdRow, securityRow, accountRow, pairRow, linkRow}
 use Rattle.rules.specs.Calls.{Store, Call, enter, move, pay, settle, derive, isAccepted, Item, item, emptyStore}
 use Rattle.rules.specs.Demands.{grown, made, brings, brought, pays, paidIn, PairEntered, now, before, Unchanged, Changed, EachChanged, Balanced}
 use Rattle.rules.proofs.Tables.{Sized, empty-sized, empty-rows}

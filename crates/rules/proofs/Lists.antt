@@ -6,7 +6,9 @@ use lib.IntN.{ℤ, pos, _+ℤ_, +ℤ-idr}
 use lib.Dec.{eqb}
 use Rattle.rules.specs.Types.{Half, Step}
 use Rattle.rules.specs.Tests.{lowest}
-use Rattle.rules.specs.Directory.{Rows, rowsOf, Row, securityLimit}
+use Rattle.rules.specs.Directory.{Rows, rowsOf, securityLimit}
+use Rattle.rules.specs.Entries.{Row}
+use Rattle.rules.specs.Lookups.{ask}
 use Rattle.rules.specs.Chain.{stepsOf}
 use Rattle.rules.specs.Booking.{Way}
 use Rattle.rules.specs.Calls.{Store, Call, enter, move, pay, settle, derive, coreConditions, deskConditions, desk, outcome, success, changed, Item, item, Run, next, runFrom, run, emptyStore, halvesChain}
@@ -84,7 +86,7 @@ module _ (st : Store) (size : Sized (st .directory)) (B : InBalance (rowsOf (st 
   settle-done : (h g : Half) (lent : List Step) → Done (settle h g lent)
   settle-done h g lent free =
       let F : Facts r = facts-of (settle h g lent) st free in
-      let steps : List Step = stepsOf (halvesChain r h g) in
+      let steps : List Step = stepsOf (halvesChain (ask r) h g) in
       let S : SettleFacts st h g steps = settle-facts st h g lent free in
       record {
         sized = size;

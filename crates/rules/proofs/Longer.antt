@@ -7,7 +7,8 @@ use native.Mathlib.Omega.{arith}
 use lib.ListN.{length, getElem?, length-append}
 use Rattle.rules.specs.Types.{Csd, Account, Pair, Link}
 use Rattle.rules.specs.Tests.{isRow}
-use Rattle.rules.specs.Directory.{Rows, Row, csdRow, securityRow, accountRow, pairRow, linkRow, external, isKind, inBooks}
+use Rattle.rules.specs.Directory.{Rows, external, isKind, inBooks}
+use Rattle.rules.specs.Entries.{Row, csdRow, securityRow, accountRow, pairRow, linkRow}
 use Rattle.rules.specs.Demands.{withRow}
 use Rattle.rules.proofs.Basics.{ltb-is, ltb-true}
 use Rattle.rules.proofs.Facts.{PairFacts, LinkFacts}

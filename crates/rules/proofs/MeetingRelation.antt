@@ -6,9 +6,10 @@ use mathlib.Core.List.{List, [], _∷_, _++_, List·Memᴰ, List·Memᴰ·head, 
 use mathlib.Core.Option.{Option, none, some}
 use Prim.Native.Nat.{ℕ}
 use lib.Dec.{eqb}
-use Rattle.rules.specs.Types.{Csd, WalkEnd}
+use Rattle.rules.specs.Types.{WalkEnd}
 use Rattle.rules.specs.Tests.{find}
 use Rattle.rules.specs.Directory.{Rows, external}
+use Rattle.rules.specs.Lookups.{Lookups, ask}
 use Rattle.rules.specs.Walks.{Walk, defaultWalk, arrived}
 use Rattle.rules.specs.Chain.{isNamed, firstShared, shared, upTo}
 use Rattle.rules.specs.Relations.{DefaultWalk, Meets, NoMeeting}
@@ -40,25 +41,25 @@ first-place : (path : List ℕ) (m : ℕ) → List·Memᴰ m path → FirstIn (e
 first-place path m i = found-first (eqb m) path m (only-found (eqb m) path m i (eqb-true m m refl) (λ n _ e. sym (eqb-is m n e)))
 
 -- the test of a shared CSD
-abbrev pub isShared : List Csd → List ℕ → ℕ → Bool
-isShared cs q c = not (external cs c) && isNamed q c
+abbrev pub isShared : Lookups → List ℕ → ℕ → Bool
+isShared k q c = not (k .outside c) && isNamed q c
 
 module _ (r : Rows) (s D R : ℕ) where
   -- the default walks from D and from R
   abbrev fromD : Walk
-  fromD = defaultWalk (r .csds) (r .links) s D
+  fromD = defaultWalk (ask r) s D
 
   abbrev fromR : Walk
-  fromR = defaultWalk (r .csds) (r .links) s R
+  fromR = defaultWalk (ask r) s R
 
-  in-shared : (q : List ℕ) (c : ℕ) → external (r .csds) c ≡ false → List·Memᴰ c q → isShared (r .csds) q c ≡ true
+  in-shared : (q : List ℕ) (c : ℕ) → external (r .csds) c ≡ false → List·Memᴰ c q → isShared (ask r) q c ≡ true
   in-shared q c e i = and-true (not (external (r .csds) c)) (isNamed q c) (ap not e) (in-named q c i)
 
   pub meets-shared : Facts r → (up down : List ℕ) (x : Meets (r .csds) (r .links) s D R up down)
-      → (shared (r .csds) fromD fromR ≡ some (x .meeting)) × (upTo (x .meeting) (fromD .path) ≡ up) × (upTo (x .meeting) (fromR .path) ≡ down)
+      → (shared (ask r) fromD fromR ≡ some (x .meeting)) × (upTo (x .meeting) (fromD .path) ≡ up) × (upTo (x .meeting) (fromR .path) ≡ down)
   unfolding firstShared
   meets-shared F up down x = (
-    rw (w, v, x .deliveringArrived, x .receivingArrived) (first-found (isShared (r .csds) q) (x .before) (x .after) (x .meeting) here earlier),
+    rw (w, v, x .deliveringArrived, x .receivingArrived) (first-found (isShared (ask r) q) (x .before) (x .after) (x .meeting) here earlier),
     ap (λ (k : Walk). upTo (x .meeting) (k .path)) w ∙ up-to-first (x .meeting) (x .before) (x .after) fresh ∙ sym (x .upward),
     ap (λ (k : Walk). upTo (x .meeting) (k .path)) v ∙ up-to-first (x .meeting) (x .beneath) (x .above) (x .once) ∙ sym (x .downward),
   )
@@ -75,23 +76,23 @@ module _ (r : Rows) (s D R : ℕ) where
       v : fromR ≡ record { end = x .receivingEnd; path = q }
       v = default-walk r s F R q (x .receivingEnd) (x .receiving)
 
-      here : isShared (r .csds) q (x .meeting) ≡ true
+      here : isShared (ask r) q (x .meeting) ≡ true
       here = in-shared q (x .meeting) (x .inT2S) (Memᴰ·append-right (x .beneath) (List·Memᴰ·head refl))
 
-      earlier : (c : ℕ) → List·Memᴰ c (x .before) → isShared (r .csds) q c ≡ false
+      earlier : (c : ℕ) → List·Memᴰ c (x .before) → isShared (ask r) q c ≡ false
       earlier c i =
-          untrue (isShared (r .csds) q c) (λ e.
+          untrue (isShared (ask r) q c) (λ e.
           let b : (not (external (r .csds) c) ≡ true) × (isNamed q c ≡ true) = and-both (not (external (r .csds) c)) (isNamed q c) e in
           x .first c i (unnot (external (r .csds) c) (b .0)) (named-in q c (b .1)))
 
       fresh : List·Memᴰ (x .meeting) (x .before) → ⊥
-      fresh i = clash (isShared (r .csds) q (x .meeting)) here (earlier (x .meeting) i)
+      fresh i = clash (isShared (ask r) q (x .meeting)) here (earlier (x .meeting) i)
 
-  pub shared-meets : (m : ℕ) → shared (r .csds) fromD fromR ≡ some m → Meets (r .csds) (r .links) s D R (upTo m (fromD .path)) (upTo m (fromR .path))
+  pub shared-meets : (m : ℕ) → shared (ask r) fromD fromR ≡ some m → Meets (r .csds) (r .links) s D R (upTo m (fromD .path)) (upTo m (fromR .path))
   unfolding firstShared
   shared-meets m e = go (arrived (fromD .end) && arrived (fromR .end)) refl e
     where
-      build : (arrived (fromD .end) ≡ true) × (arrived (fromR .end) ≡ true) → FirstIn (isShared (r .csds) (fromR .path)) (fromD .path) m
+      build : (arrived (fromD .end) ≡ true) × (arrived (fromR .end) ≡ true) → FirstIn (isShared (ask r) (fromR .path)) (fromD .path) m
           → (external (r .csds) m ≡ false) → FirstIn (eqb m) (fromR .path) m → Meets (r .csds) (r .links) s D R (upTo m (fromD .path)) (upTo m (fromR .path))
       build a x home y =
           record {
@@ -107,30 +108,30 @@ module _ (r : Rows) (s D R : ℕ) where
             deliveringArrived = a .0;
             receivingArrived = a .1;
             inT2S = home;
-            first = λ c i k n. clash (isShared (r .csds) (fromR .path) c) (in-shared (fromR .path) c k (rw (y .whole) n)) (x .earlier c i);
+            first = λ c i k n. clash (isShared (ask r) (fromR .path) c) (in-shared (fromR .path) c k (rw (y .whole) n)) (x .earlier c i);
             once = λ i. clash (eqb m m) (eqb-true m m refl) (y .earlier m i);
-            upward = ap (upTo m) (x .whole) ∙ up-to-first m (x .before) (x .after) (λ i. clash (isShared (r .csds) (fromR .path) m) (x .passes) (x .earlier m i));
+            upward = ap (upTo m) (x .whole) ∙ up-to-first m (x .before) (x .after) (λ i. clash (isShared (ask r) (fromR .path) m) (x .passes) (x .earlier m i));
             downward = ap (upTo m) (y .whole) ∙ up-to-first m (y .before) (y .after) (λ i. clash (eqb m m) (eqb-true m m refl) (y .earlier m i));
           }
 
-      go : (b : Bool) → (arrived (fromD .end) && arrived (fromR .end)) ≡ b → cond b (firstShared (r .csds) (fromD .path) (fromR .path)) none ≡ some m
+      go : (b : Bool) → (arrived (fromD .end) && arrived (fromR .end)) ≡ b → cond b (firstShared (ask r) (fromD .path) (fromR .path)) none ≡ some m
           → Meets (r .csds) (r .links) s D R (upTo m (fromD .path)) (upTo m (fromR .path))
       go false a q = impossible (cc)
       go true a q =
-          let x : FirstIn (isShared (r .csds) (fromR .path)) (fromD .path) m = found-first (isShared (r .csds) (fromR .path)) (fromD .path) m q in
+          let x : FirstIn (isShared (ask r) (fromR .path)) (fromD .path) m = found-first (isShared (ask r) (fromR .path)) (fromD .path) m q in
           let b : (not (external (r .csds) m) ≡ true) × (isNamed (fromR .path) m ≡ true) = and-both (not (external (r .csds) m)) (isNamed (fromR .path) m) (x .passes) in
           build (and-both (arrived (fromD .end)) (arrived (fromR .end)) a) x (unnot (external (r .csds) m) (b .0)) (first-place (fromR .path) m (named-in (fromR .path) m (b .1)))
 
-  pub no-meeting : NoMeeting (r .csds) (r .links) s D R → shared (r .csds) fromD fromR ≡ none
-  no-meeting never = go (shared (r .csds) fromD fromR) refl
+  pub no-meeting : NoMeeting (r .csds) (r .links) s D R → shared (ask r) fromD fromR ≡ none
+  no-meeting never = go (shared (ask r) fromD fromR) refl
     where
-      go : (o : Option ℕ) → shared (r .csds) fromD fromR ≡ o → o ≡ none
+      go : (o : Option ℕ) → shared (ask r) fromD fromR ≡ o → o ≡ none
       go none e = refl
       go (some m) e = absurd (never (upTo m (fromD .path)) (upTo m (fromR .path)) (shared-meets m e))
 
-  pub none-shared : Facts r → shared (r .csds) fromD fromR ≡ none → NoMeeting (r .csds) (r .links) s D R
+  pub none-shared : Facts r → shared (ask r) fromD fromR ≡ none → NoMeeting (r .csds) (r .links) s D R
   none-shared F e up down x =
-      let h : shared (r .csds) fromD fromR ≡ some (x .meeting) = meets-shared F up down x .0 in
+      let h : shared (ask r) fromD fromR ≡ some (x .meeting) = meets-shared F up down x .0 in
       impossible (cc)
 
   -- two walks that arrive and do not meet name no CSD in T2S both
@@ -139,6 +140,6 @@ module _ (r : Rows) (s D R : ℕ) where
       → (c : ℕ) → List·Memᴰ c up → List·Memᴰ c down → external (r .csds) c ≡ false → ⊥
   unfolding firstShared
   walks-apart F never up down e g w v a b c i j x =
-      let alone : find (isShared (r .csds) down) up ≡ none
+      let alone : find (isShared (ask r) down) up ≡ none
       = rw (default-walk r s F D up e w, default-walk r s F R down g v, a, b) at (no-meeting never) in
-      clash (isShared (r .csds) down c) (in-shared down c x j) (find-none (isShared (r .csds) down) up alone c i)
+      clash (isShared (ask r) down c) (in-shared down c x j) (find-none (isShared (ask r) down) up alone c i)

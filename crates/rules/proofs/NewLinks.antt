@@ -8,8 +8,9 @@ use native.Mathlib.Omega.{arith}
 use lib.Dec.{eqb, ltb}
 use Rattle.rules.specs.Types.{Link}
 use Rattle.rules.specs.Tests.{isRow, isFull}
-use Rattle.rules.specs.Directory as Entry
-use Rattle.rules.specs.Directory.{Rows, linkLimit, noCsd, noAccount, external, isKind, inBooks, isAccountOf, hasLink, hasIssuer}
+use Rattle.rules.specs.Entries as Entry
+use Rattle.rules.specs.Directory.{Rows, linkLimit, noCsd, noAccount, external, isKind, inBooks, hasLink, hasIssuer}
+use Rattle.rules.specs.Lookups.{ask, isAccountOf}
 use Rattle.rules.proofs.Basics.{unnot-false, and-both, and-first, and-second, or-right, or-none, bool-cases, eqb-is, eqb-true, eqb-not, eqb-false, ltb-not, quiet}
 use Rattle.rules.proofs.Several.{none-hold}
 use Rattle.rules.proofs.Facts.{IssuerFacts, InvestorFacts, LinkFacts}
@@ -27,13 +28,13 @@ within-one : (n : ℕ) → (n ≡ 0) ⊎ (n ≡ 1) → ltb 1 n ≡ false
 within-one n (inl e) = rw e
 within-one n (inr e) = rw e
 
-issuer-facts : (r : Rows) (before : List Link) (x : Link) → Entry.wrongIssuance (r .csds) (r .accounts) x ≡ false → Entry.issuerBroken (r .csds) before x ≡ false
+issuer-facts : (r : Rows) (before : List Link) (x : Link) → Entry.wrongIssuance (ask r) x ≡ false → Entry.issuerBroken (Entry.besideLinks (r .csds) (r .securities) (r .accounts) before) x ≡ false
     → x .kind ≡ 0 → IssuerFacts r x × (hasLink before (x .security) (x .csd) ≡ false)
 issuer-facts r before x owned ruled k =
     let outside = external (r .csds) (x .csd) in
     let f = none-hold (not (eqb (x .technical) noCsd)) (not (eqb (x .flag) 1) ∷ (outside && not (eqb (x .account) noAccount)) ∷ hasLink before (x .security) (x .csd) ∷ []) ruled in
-    let issuance : outside ≡ false → isAccountOf (r .accounts) (x .account) (x .csd) 4 ≡ true =
-    λ h. unnot-false (isAccountOf (r .accounts) (x .account) (x .csd) 4) (rw (eqb-true (x .kind) 0 k, h) at owned) in
+    let issuance : outside ≡ false → isAccountOf (ask r) (x .account) (x .csd) 4 ≡ true =
+    λ h. unnot-false (isAccountOf (ask r) (x .account) (x .csd) 4) (rw (eqb-true (x .kind) 0 k, h) at owned) in
     let parts : outside ≡ false → (inBooks (r .accounts) (x .account) (x .csd) ≡ true) × (isKind (r .accounts) (x .account) 4 ≡ true) =
     λ h. and-both (inBooks (r .accounts) (x .account) (x .csd)) (isKind (r .accounts) (x .account) 4) (issuance h) in (
       record {
@@ -46,10 +47,10 @@ issuer-facts r before x owned ruled k =
       f .1 .1 .1,
     )
 
-investor-facts : (r : Rows) (before : List Link) (x : Link) → Entry.technicalUnknown (r .csds) x ≡ false → ltb 1 (x .flag) ≡ false → Entry.investorBroken (r .csds) before x ≡ false
-    → x .kind ≡ 1 → InvestorFacts r x × (hasIssuer before (x .security) (x .csd) ≡ false) × (Entry.flagBroken before x ≡ false)
+investor-facts : (r : Rows) (before : List Link) (x : Link) → Entry.technicalUnknown (ask r) x ≡ false → ltb 1 (x .flag) ≡ false → Entry.investorBroken (Entry.besideLinks (r .csds) (r .securities) (r .accounts) before) x ≡ false
+    → x .kind ≡ 1 → InvestorFacts r x × (hasIssuer before (x .security) (x .csd) ≡ false) × (Entry.flagBroken (Entry.besideLinks (r .csds) (r .securities) (r .accounts) before) x ≡ false)
 investor-facts r before x named small ruled k =
-    let f = none-hold (eqb (x .technical) (x .csd)) (not (eqb (x .account) noAccount) ∷ hasIssuer before (x .security) (x .csd) ∷ Entry.flagBroken before x ∷ Entry.alternativeOutside (r .csds) x ∷ []) ruled in (
+    let f = none-hold (eqb (x .technical) (x .csd)) (not (eqb (x .account) noAccount) ∷ hasIssuer before (x .security) (x .csd) ∷ Entry.flagBroken (Entry.besideLinks (r .csds) (r .securities) (r .accounts) before) x ∷ Entry.alternativeOutside (ask r) x ∷ []) ruled in (
       record {
         technicalRow =
             unnot-false (isRow (r .csds) (x .technical)) (and-first (not (isRow (r .csds) (x .technical))) (not (eqb (x .technical) noCsd) || eqb (x .kind) 1) named
@@ -67,21 +68,21 @@ module _ (r : Rows) (before : List Link) (x : Link) where
   -- beside its facts, which are the directory's: how it stands to the links before it
   pub record NewLink : Type 0 where
     pub room : isFull linkLimit before ≡ false
-    pub unentered : Entry.technicalEntered before x ≡ false
+    pub unentered : Entry.technicalEntered (Entry.besideLinks (r .csds) (r .securities) (r .accounts) before) x ≡ false
     pub noLink : x .kind ≡ 0 → hasLink before (x .security) (x .csd) ≡ false
     pub noIssuer : x .kind ≡ 1 → hasIssuer before (x .security) (x .csd) ≡ false
-    pub flagFits : x .kind ≡ 1 → Entry.flagBroken before x ≡ false
+    pub flagFits : x .kind ≡ 1 → Entry.flagBroken (Entry.besideLinks (r .csds) (r .securities) (r .accounts) before) x ≡ false
     pub facts : LinkFacts r x
 
   pub accepted-link : Entry.linkRefusal (r .csds) (r .securities) (r .accounts) before x ≡ 0 → NewLink
   unfolding Entry.linkRefusal
   accepted-link e =
-      let q = quiet (Entry.linkConditions (r .csds) (r .securities) (r .accounts) before x) refl e in
-      let named = none-hold (not (isRow (r .securities) (x .security))) (not (isRow (r .csds) (x .csd)) ∷ Entry.technicalUnknown (r .csds) x ∷ Entry.accountUnknown (r .csds) (r .accounts) x ∷ []) (q .1 .0) in
+      let q = quiet (Entry.linkConditions (Entry.besideLinks (r .csds) (r .securities) (r .accounts) before) x) refl e in
+      let named = none-hold (not (isRow (r .securities) (x .security))) (not (isRow (r .csds) (x .csd)) ∷ Entry.technicalUnknown (ask r) x ∷ Entry.accountUnknown (ask r) x ∷ []) (q .1 .0) in
       let small = or-none (ltb 1 (x .kind)) (ltb 1 (x .flag)) (q .1 .1 .0) in
       let asIssuer : x .kind ≡ 0 → IssuerFacts r x × (hasLink before (x .security) (x .csd) ≡ false) =
       λ k. issuer-facts r before x (q .1 .1 .1 .1 .0) (rw (eqb-true (x .kind) 0 k) at (q .1 .1 .1 .1 .1 .0)) k in
-      let asInvestor : x .kind ≡ 1 → InvestorFacts r x × (hasIssuer before (x .security) (x .csd) ≡ false) × (Entry.flagBroken before x ≡ false) =
+      let asInvestor : x .kind ≡ 1 → InvestorFacts r x × (hasIssuer before (x .security) (x .csd) ≡ false) × (Entry.flagBroken (Entry.besideLinks (r .csds) (r .securities) (r .accounts) before) x ≡ false) =
       λ k. investor-facts r before x (named .1 .1 .0) (small .1) (rw (eqb-false (x .kind) 0 (omega arith)) at (q .1 .1 .1 .1 .1 .0)) k in
       record {
         room = q .0;
@@ -123,7 +124,7 @@ module _ (r : Rows) (before : List Link) (x : Link) where
         | inr h ↦ rw (h, books-entered (r .accounts) (x .account) (x .csd) (i .books h), i .books h, i .kind h)
       ]
 
-  alternative-inside : LinkFacts r x → x .kind ≡ 1 → Entry.alternativeOutside (r .csds) x ≡ false
+  alternative-inside : LinkFacts r x → x .kind ≡ 1 → Entry.alternativeOutside (ask r) x ≡ false
   alternative-inside f k =
       let i = f .investor k in
       elim (i .flag) [

@@ -6,8 +6,9 @@ use mathlib.Core.List.{List, [], _∷_}
 use lib.Dec.{eqb}
 use Rattle.rules.specs.Types.{Pair}
 use Rattle.rules.specs.Tests.{isRow, isFull}
-use Rattle.rules.specs.Directory as Entry
-use Rattle.rules.specs.Directory.{Rows, pairLimit, noAccount, external, isKind, inBooks, isAccountOf, isJoined, isPaired}
+use Rattle.rules.specs.Entries as Entry
+use Rattle.rules.specs.Directory.{Rows, pairLimit, noAccount, external, isKind, inBooks, isJoined, isPaired}
+use Rattle.rules.specs.Lookups.{ask, isAccountOf}
 use Rattle.rules.proofs.Basics.{unnot-false, and-both, and-second, or-none, bool-cases, eqb-is, eqb-true, eqb-not, eqb-false, quiet}
 use Rattle.rules.proofs.Several.{none-hold}
 use Rattle.rules.proofs.Facts.{HomePair, AwayPair, PairFacts}
@@ -16,7 +17,7 @@ use Rattle.rules.proofs.Accounts.{books-entered}
 abbrev away : Rows → Pair → Bool
 away r x = external (r .csds) (x .technical)
 
-home-accounts : (r : Rows) (x : Pair) → Entry.wrongAccounts (r .csds) (r .accounts) x ≡ false → away r x ≡ false
+home-accounts : (r : Rows) (x : Pair) → Entry.wrongAccounts (ask r) x ≡ false → away r x ≡ false
     → (inBooks (r .accounts) (x .mirror) (x .investor) ≡ true) × HomePair r x
 home-accounts r x e h =
     let right : (not mirrorRight || not omnibusRight) ≡ false = rw h at e in
@@ -25,16 +26,16 @@ home-accounts r x e h =
     (mirror .0, record { mirrorKind = mirror .1; omnibusBooks = omnibus .0; omnibusKind = omnibus .1 })
   where
     mirrorRight : Bool
-    mirrorRight = isAccountOf (r .accounts) (x .mirror) (x .investor) 2
+    mirrorRight = isAccountOf (ask r) (x .mirror) (x .investor) 2
 
     omnibusRight : Bool
-    omnibusRight = isAccountOf (r .accounts) (x .omnibus) (x .technical) 1
+    omnibusRight = isAccountOf (ask r) (x .omnibus) (x .technical) 1
 
-away-accounts : (r : Rows) (x : Pair) → Entry.wrongAccounts (r .csds) (r .accounts) x ≡ false → (away r x && not (eqb (x .omnibus) noAccount)) ≡ false
+away-accounts : (r : Rows) (x : Pair) → Entry.wrongAccounts (ask r) x ≡ false → (away r x && not (eqb (x .omnibus) noAccount)) ≡ false
     → away r x ≡ true → (inBooks (r .accounts) (x .mirror) (x .investor) ≡ true) × AwayPair r x
 away-accounts r x e f h =
-    let right : not (isAccountOf (r .accounts) (x .mirror) (x .investor) 3) ≡ false = rw h at e in
-    let mirror = and-both (inBooks (r .accounts) (x .mirror) (x .investor)) (isKind (r .accounts) (x .mirror) 3) (unnot-false (isAccountOf (r .accounts) (x .mirror) (x .investor) 3) right) in
+    let right : not (isAccountOf (ask r) (x .mirror) (x .investor) 3) ≡ false = rw h at e in
+    let mirror = and-both (inBooks (r .accounts) (x .mirror) (x .investor)) (isKind (r .accounts) (x .mirror) 3) (unnot-false (isAccountOf (ask r) (x .mirror) (x .investor) 3) right) in
     let alone = and-second (away r x) (not (eqb (x .omnibus) noAccount)) f h in
     (mirror .0, record { mirrorKind = mirror .1; alone = eqb-is (x .omnibus) noAccount (unnot-false (eqb (x .omnibus) noAccount) alone) })
 
@@ -50,8 +51,8 @@ module _ (r : Rows) (before : List Pair) (x : Pair) where
   pub accepted-pair : Entry.pairRefusal (r .csds) (r .accounts) before x ≡ 0 → NewPair
   unfolding Entry.pairRefusal
   accepted-pair e =
-      let q = quiet (Entry.pairConditions (r .csds) (r .accounts) before x) refl e in
-      let named = none-hold (not (isRow (r .csds) (x .investor))) (not (isRow (r .csds) (x .technical)) ∷ not (isRow (r .accounts) (x .mirror)) ∷ Entry.secondUnknown (r .csds) (r .accounts) x ∷ []) (q .1 .0) in
+      let q = quiet (Entry.pairConditions (Entry.besidePairs (r .csds) (r .accounts) before) x) refl e in
+      let named = none-hold (not (isRow (r .csds) (x .investor))) (not (isRow (r .csds) (x .technical)) ∷ not (isRow (r .accounts) (x .mirror)) ∷ Entry.secondUnknown (ask r) x ∷ []) (q .1 .0) in
       let fresh = none-hold (isJoined before (x .investor) (x .technical)) (isPaired before (x .mirror) ∷ isPaired before (x .omnibus) ∷ []) (q .1 .1 .0) in
       let owned = q .1 .1 .1 .0 in
       let ruled = or-none (eqb (x .investor) (x .technical)) (away r x && not (eqb (x .omnibus) noAccount)) (q .1 .1 .1 .1 .0) in

@@ -8,7 +8,8 @@ use lib.IntN.{ℤ, pos, _+ℤ_, _-ℤ_}
 use lib.Signed.{_≤ℤ_, ltZ}
 use lib.Dec.{eqb}
 use Rattle.rules.specs.Types.{Account, Half, Step}
-use Rattle.rules.specs.Directory.{rowsOf}
+use Rattle.rules.specs.Directory.{rowsOf, isKind}
+use Rattle.rules.specs.Lookups.{ask}
 use Rattle.rules.specs.Booking.{floored, stepShort, unitsShort, beyond, stepBeyond, unitsBeyond, cashShort, cashBeyond, paymentBeyond, cents, lessCents, heldIn, cashOn}
 use Rattle.rules.specs.Calls.{Store, bookConditions}
 use Rattle.rules.specs.Demands.{Allowed}
@@ -23,17 +24,17 @@ zero-not m e = eqb-not m 0 (unnot (eqb m 0) e)
 
 -- ---- 20: whoever is debited and may not fall below 0 holds the quantity
 module _ (acc : List Account) (p : List ℤ) (s q : ℕ) (steps : List Step) where
-  pub units-held : unitsShort acc p s q steps ≡ false → (x : Step) → List·Memᴰ x steps → floored acc (x .debited) ≡ true → pos q ≤ℤ heldIn p s (x .debited)
+  pub units-held : unitsShort (isKind acc) p s q steps ≡ false → (x : Step) → List·Memᴰ x steps → floored (isKind acc) (x .debited) ≡ true → pos q ≤ℤ heldIn p s (x .debited)
   unfolding unitsShort
   units-held e x m f =
       not-short (heldIn p s (x .debited)) q
-      (and-second (floored acc (x .debited)) (ltZ (heldIn p s (x .debited)) (pos q)) (any-none (stepShort acc p s q) steps e x m) f)
+      (and-second (floored (isKind acc) (x .debited)) (ltZ (heldIn p s (x .debited)) (pos q)) (any-none (stepShort (isKind acc) p s q) steps e x m) f)
 
-  held-units : ((x : Step) → List·Memᴰ x steps → floored acc (x .debited) ≡ true → pos q ≤ℤ heldIn p s (x .debited)) → unitsShort acc p s q steps ≡ false
+  held-units : ((x : Step) → List·Memᴰ x steps → floored (isKind acc) (x .debited) ≡ true → pos q ≤ℤ heldIn p s (x .debited)) → unitsShort (isKind acc) p s q steps ≡ false
   unfolding unitsShort
   held-units h =
-      none-any (stepShort acc p s q) steps
-      (λ x m. and-untrue (floored acc (x .debited)) (ltZ (heldIn p s (x .debited)) (pos q)) (λ f. short-not (heldIn p s (x .debited)) q (h x m f)))
+      none-any (stepShort (isKind acc) p s q) steps
+      (λ x m. and-untrue (floored (isKind acc) (x .debited)) (ltZ (heldIn p s (x .debited)) (pos q)) (λ f. short-not (heldIn p s (x .debited)) q (h x m f)))
 
 -- ---- 21: whoever pays holds the amount
 pub cash-held : (c : List ℤ) (a m : ℕ) → cashShort c a m ≡ false → m ≢ 0 → pos m ≤ℤ cashOn c a
@@ -70,7 +71,7 @@ module _ (st : Store) (h g : Half) (steps : List Step) where
   abbrev anyCents : Bool
   anyCents = paymentBeyond (st .cash) (g .account) (h .account) (h .amount)
 
-  pub allowed-quiet : Allowed st h g steps → Quiet (bookConditions (rowsOf (st .directory)) (st .positions) (st .cash) h g steps)
+  pub allowed-quiet : Allowed st h g steps → Quiet (bookConditions (ask (rowsOf (st .directory))) (st .positions) (st .cash) h g steps)
   unfolding unitsBeyond cashBeyond paymentBeyond
   allowed-quiet A =
       let units =
@@ -83,7 +84,7 @@ module _ (st : Store) (h g : Half) (steps : List Step) where
         (held-cash (st .cash) (g .account) (h .amount) (A .cash), (or-false anyUnits anyCents units payment, tt)),
       )
 
-  pub quiet-allowed : Quiet (bookConditions (rowsOf (st .directory)) (st .positions) (st .cash) h g steps) → Allowed st h g steps
+  pub quiet-allowed : Quiet (bookConditions (ask (rowsOf (st .directory))) (st .positions) (st .cash) h g steps) → Allowed st h g steps
   unfolding unitsBeyond cashBeyond paymentBeyond
   quiet-allowed q =
       record {

@@ -7,8 +7,10 @@ use Prim.Native.Nat.{ℕ, zero, suc, _≤_}
 use native.Mathlib.Omega.{arith}
 use Rattle.rules.specs.Types.{Half, Refused}
 use Rattle.rules.specs.Tests.{lowest}
-use Rattle.rules.specs.Directory.{Rows, rowsOf, Row, csdRow, securityRow, accountRow, pairRow, linkRow, rowConditions}
-use Rattle.rules.specs.Chain.{unchained, stepsOf, chainConditions, homeOf}
+use Rattle.rules.specs.Directory.{Rows, rowsOf}
+use Rattle.rules.specs.Entries.{Row, csdRow, securityRow, accountRow, pairRow, linkRow, rowConditions}
+use Rattle.rules.specs.Lookups.{homeOf, ask}
+use Rattle.rules.specs.Chain.{unchained, stepsOf, chainConditions}
 use Rattle.rules.specs.Booking.{Way, contra, moveBy, moveChain}
 use Rattle.rules.specs.Calls.{Store, Call, enter, move, pay, settle, derive, desk, core, outcome, success, coreConditions, deskConditions, halvesConditions, halvesChain, deriveConditions, bookConditions, isAccepted, numberOf}
 use Rattle.rules.specs.Demands.{Applies, Ruled, Refuses}
@@ -17,9 +19,9 @@ use Rattle.rules.proofs.ChainSize.{chain-number}
 use Rattle.rules.proofs.Conditions.{ascending, ascending-lower, ascending-append, ascending-numbered, lowest-range, lowest-applies, nothing-lowest, lowest-least, chain-ascends}
 
 -- ---- the calls' conditions ascend
-move-number : (r : Rows) (w : Way) (a s n : ℕ) → moveChain r w a s ≡ unchained n → n ≡ 19
+move-number : (r : Rows) (w : Way) (a s n : ℕ) → moveChain (ask r) w a s ≡ unchained n → n ≡ 19
 unfolding moveChain
-move-number r w a s n e = go (contra (r .csds) (r .pairs) (r .links) s (homeOf (r .accounts) a)) e
+move-number r w a s n e = go (contra (ask r) s (homeOf (r .accounts) a)) e
   where
     go : (o : Option ℕ) → moveBy w (homeOf (r .accounts) a) a o ≡ unchained n → n ≡ 19
     go none f = cc
@@ -32,23 +34,23 @@ row-ascends r (accountRow x) = refl
 row-ascends r (pairRow x) = refl
 row-ascends r (linkRow x) = refl
 
-derive-ascends : (hi : ℕ) → 18 ≤ hi → (r : Rows) (h g : Half) → ascending 5 (deriveConditions r h g) hi ≡ true
+derive-ascends : (hi : ℕ) → 18 ≤ hi → (r : Rows) (h g : Half) → ascending 5 (deriveConditions (ask r) h g) hi ≡ true
 derive-ascends hi l r h g =
-    ascending-append 5 14 hi (halvesConditions r h g) (chainConditions (halvesChain r h g)) refl
-    (chain-ascends 14 hi (halvesChain r h g) (omega arith)
+    ascending-append 5 14 hi (halvesConditions (ask r) h g) (chainConditions (halvesChain (ask r) h g)) refl
+    (chain-ascends 14 hi (halvesChain (ask r) h g) (omega arith)
     (λ n e. let k : (14 ≤ n) × (n ≤ 18) = chain-number r _ _ _ n e in (k .0, omega (arith, k .1))))
 
 core-ascends : (c : Call) (st : Store) → ascending 5 (coreConditions c st) 22 ≡ true
 core-ascends (enter x) st = row-ascends (rowsOf (st .directory)) x
 core-ascends (move w a s q) st =
-    ascending-append 10 19 22 (chainConditions (moveChain (rowsOf (st .directory)) w a s)) _
-    (chain-ascends 10 19 (moveChain (rowsOf (st .directory)) w a s) (omega arith)
+    ascending-append 10 19 22 (chainConditions (moveChain (ask (rowsOf (st .directory))) w a s)) _
+    (chain-ascends 10 19 (moveChain (ask (rowsOf (st .directory))) w a s) (omega arith)
     (λ n e. let f : n ≡ 19 = move-number (rowsOf (st .directory)) w a s n e in (omega arith, omega arith)))
     refl
 core-ascends (pay w a m) st = refl
 core-ascends (settle h g lent) st =
-    ascending-append 5 18 22 (deriveConditions (rowsOf (st .directory)) h g)
-    (bookConditions (rowsOf (st .directory)) (st .positions) (st .cash) h g (stepsOf (halvesChain (rowsOf (st .directory)) h g)))
+    ascending-append 5 18 22 (deriveConditions (ask (rowsOf (st .directory))) h g)
+    (bookConditions (ask (rowsOf (st .directory))) (st .positions) (st .cash) h g (stepsOf (halvesChain (ask (rowsOf (st .directory))) h g)))
     (derive-ascends 18 (omega arith) (rowsOf (st .directory)) h g) refl
 core-ascends (derive h g lent) st = derive-ascends 22 (omega arith) (rowsOf (st .directory)) h g
 

@@ -6,6 +6,7 @@ use mathlib.Core.List.{List}
 use Prim.Native.Nat.{ℕ}
 use Rattle.rules.specs.Types.{Inside, Outside, Join}
 use Rattle.rules.specs.Directory.{Rows}
+use Rattle.rules.specs.Lookups.{ask}
 use Rattle.rules.specs.Walks.{Walk, directedWalk, reached}
 use Rattle.rules.specs.Chain.{Route, sides, apart, route}
 use Rattle.rules.specs.Relations.{NoDirected, Joins, same, meets, ahead, back, issuers, externals}
@@ -16,17 +17,17 @@ use Rattle.rules.proofs.Routing.{Routed, oneCsd, sharing, directed, rev
 use Rattle.rules.proofs.MeetingRelation.{meets-shared, shared-meets, no-meeting, none-shared}
 
 module _ (r : Rows) (s : ℕ) where
-  not-reached : (t c : ℕ) → NoDirected (r .csds) (r .links) s t c → reached t (directedWalk (r .csds) (r .links) s t c .end) ≡ false
+  not-reached : (t c : ℕ) → NoDirected (r .csds) (r .links) s t c → reached t (directedWalk (ask r) s t c .end) ≡ false
   not-reached t c never = untrue (reached t (w .end)) (λ e. never (w .path) (walk-directed r s t c e))
     where
       w : Walk
-      w = directedWalk (r .csds) (r .links) s t c
+      w = directedWalk (ask r) s t c
 
-  reached-not : Facts r → (t c : ℕ) → reached t (directedWalk (r .csds) (r .links) s t c .end) ≡ false → NoDirected (r .csds) (r .links) s t c
+  reached-not : Facts r → (t c : ℕ) → reached t (directedWalk (ask r) s t c .end) ≡ false → NoDirected (r .csds) (r .links) s t c
   reached-not F t c e path d = clash (reached t (Inside t)) (eqb-true t t refl) (rw (directed-walk r s F t c path d) at e)
 
 module _ (r : Rows) (F : Facts r) (s D R : ℕ) where
-  pub joins-route : (j : Join) (up down : List ℕ) → Joins (r .csds) (r .links) s D R j up down → route (r .csds) (r .links) s D R ≡ sides j up down
+  pub joins-route : (j : Join) (up down : List ℕ) → Joins (r .csds) (r .links) s D R j up down → route (ask r) s D R ≡ sides j up down
   unfolding route
   joins-route j up down (same e) = rw (eqb-true D R e)
   joins-route j up down (meets ne m) =
@@ -43,7 +44,7 @@ module _ (r : Rows) (F : Facts r) (s D R : ℕ) where
   Joined (sides j up down) = Joins (r .csds) (r .links) s D R j up down
   Joined (apart n) = Unit {0}
 
-  joined : (o : Route) → Routed (r .csds) (r .links) s D R o → Joined o
+  joined : (o : Route) → Routed (ask r) s D R o → Joined o
   joined o (oneCsd e) = same e
   joined o (sharing m ne e) = meets ne (shared-meets r s D R m e)
   joined o (directed ne n e) = ahead ne (none-shared r s D R F n) (walk-directed r s R D e)
@@ -56,5 +57,5 @@ module _ (r : Rows) (F : Facts r) (s D R : ℕ) where
       (walk-default r s D (Outside x) p refl) (walk-default r s R (Outside y) q refl)
   joined o (refused n l k) = tt
 
-  pub route-joins : Joined (route (r .csds) (r .links) s D R)
-  route-joins = joined (route (r .csds) (r .links) s D R) (routed (r .csds) (r .links) s D R)
+  pub route-joins : Joined (route (ask r) s D R)
+  route-joins = joined (route (ask r) s D R) (routed (ask r) s D R)

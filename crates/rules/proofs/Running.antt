@@ -9,7 +9,8 @@ use lib.Dec.{eqb}
 use lib.ListN.{length}
 use Rattle.rules.specs.Types.{Half, Step}
 use Rattle.rules.specs.Tests.{lowest}
-use Rattle.rules.specs.Directory.{rowsOf, Row, rowConditions, sound}
+use Rattle.rules.specs.Directory.{rowsOf}
+use Rattle.rules.specs.Entries.{Row, rowConditions, sound}
 use Rattle.rules.specs.Booking.{Way, positionCount, cashCount, payment, paid, cents, lessCents, addCents}
 use Rattle.rules.specs.Calls.{Store, Call, enter, move, pay, settle, derive, misfit, coreConditions, chainFor, changed, outcome, core, desk, emptyStore}
 use Rattle.rules.proofs.Tables.{Sized, empty-sized, empty-sound, added-sized}

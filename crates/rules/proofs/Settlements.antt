@@ -5,7 +5,9 @@ use Prim.Native.Nat.{ℕ}
 use lib.ListN.{length}
 use Rattle.rules.specs.Types.{Half, Step, Booked}
 use Rattle.rules.specs.Tests.{Condition, lowest}
-use Rattle.rules.specs.Directory.{Rows, rowsOf, sound}
+use Rattle.rules.specs.Directory.{Rows, rowsOf}
+use Rattle.rules.specs.Entries.{sound}
+use Rattle.rules.specs.Lookups.{ask}
 use Rattle.rules.specs.Chain.{chained, stepsOf, chainConditions}
 use Rattle.rules.specs.Booking.{booked, paid}
 use Rattle.rules.specs.Calls.{Store, Call, settle, Outcome, outcome, desk, deskConditions, halvesConditions, halvesChain, deriveConditions, bookConditions, isAccepted, countOf}
@@ -39,10 +41,10 @@ module _ (st : Store) (h g : Half) (lent : List Step) where
   call = settle h g lent
 
   abbrev steps : List Step
-  steps = stepsOf (halvesChain rows h g)
+  steps = stepsOf (halvesChain (ask rows) h g)
 
   abbrev booking : List Step → List Condition
-  booking xs = bookConditions rows (st .positions) (st .cash) h g xs
+  booking xs = bookConditions (ask rows) (st .positions) (st .cash) h g xs
 
   -- a pair that nothing refuses is booked along its chain
   pub booked-pair : lowest (deskConditions call st) ≡ 0 → BookedPair st h g lent steps
@@ -63,15 +65,15 @@ module _ (st : Store) (h g : Half) (lent : List Step) where
   when-bookable : (xs : List Step) → Bookable st h g lent xs → BookedPair st h g lent xs
   when-bookable xs B =
       let facts : Facts rows = sound-gives (st .directory) (B .soundBooks) in
-      let is : halvesChain rows h g ≡ chained xs = chain-is-given rows facts (h .security) (h .account) (g .account) xs (B .chain) in
+      let is : halvesChain (ask rows) h g ≡ chained xs = chain-is-given rows facts (h .security) (h .account) (g .account) xs (B .chain) in
       let chosen : steps ≡ xs = ap stepsOf is in
       subst (λ (ys : List Step). BookedPair st h g lent ys) chosen
       (booked-pair (loud (deskConditions call st) (
         B .fits,
         (
           not-true (sound (st .directory)) (B .soundBooks),
-          both-quiet (deriveConditions rows h g) (booking steps)
-              (both-quiet (halvesConditions rows h g) (chainConditions (halvesChain rows h g)) (agree-quiet rows h g (B .agree)) (chained-quiet (halvesChain rows h g) xs is))
+          both-quiet (deriveConditions (ask rows) h g) (booking steps)
+              (both-quiet (halvesConditions (ask rows) h g) (chainConditions (halvesChain (ask rows) h g)) (agree-quiet rows h g (B .agree)) (chained-quiet (halvesChain (ask rows) h g) xs is))
               (subst (λ (ys : List Step). Quiet (booking ys)) (sym chosen) (allowed-quiet st h g xs (B .allowed))),
         ),
       )))

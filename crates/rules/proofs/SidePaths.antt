@@ -6,6 +6,7 @@ use mathlib.Core.List.{List}
 use Prim.Native.Nat.{ℕ}
 use Rattle.rules.specs.Types.{Link, WalkEnd, Inside, Outside, NoLink, TooLong, Join}
 use Rattle.rules.specs.Directory.{Rows, external}
+use Rattle.rules.specs.Lookups.{ask}
 use Rattle.rules.specs.Walks.{defaultHop, directedHop}
 use Rattle.rules.specs.Chain.{lastOf}
 use Rattle.rules.specs.Relations.{IssuerOf, Walks, endsOutside, endsInside, endsWithoutLink, goesOn, Directs, arrives, takes, follows, Joins, same, meets, ahead, back, issuers, externals}
@@ -16,10 +17,10 @@ use Rattle.rules.proofs.WalkRelation.{walks-runs, directs-runs}
 
 module _ (r : Rows) (F : Facts r) (s : ℕ) where
   walks-upward : (c : ℕ) (path : List ℕ) (e : WalkEnd) → Walks (r .csds) (r .links) s c path e → Upward c path
-  walks-upward c path e w = runs-upward (defaultHop (r .csds) (r .links) s) c path e (walks-runs r s F c path e w)
+  walks-upward c path e w = runs-upward (defaultHop (ask r) s) c path e (walks-runs r s F c path e w)
 
   directs-upward : (t c : ℕ) (path : List ℕ) → Directs (r .csds) (r .links) s t c path → Upward c path
-  directs-upward t c path w = runs-upward (directedHop (r .csds) (r .links) s t) c path (Inside t) (directs-runs r s F t c path w)
+  directs-upward t c path w = runs-upward (directedHop (ask r) s t) c path (Inside t) (directs-runs r s F t c path w)
 
   -- what an end says of the CSD where it came
   abbrev pub Ending : ℕ → WalkEnd → Type 0

@@ -9,8 +9,9 @@ use lib.Dec.{eqb, leb}
 use lib.ListN.{length, take, length-take}
 use Rattle.rules.specs.Types.{Account, Pair, Link, Directory}
 use Rattle.rules.specs.Tests.{isRow}
-use Rattle.rules.specs.Directory as Entry
-use Rattle.rules.specs.Directory.{Rows, rowsOf, csdLimit, securityLimit, accountLimit, pairLimit, linkLimit, noCsd, noAccount, external, inBooks, uses, joins, isJoined, isPaired, isLink, isIssuer, isInvestor, isLinkTo, hasLink, hasIssuer, hasInvestor, hasLinkTo, accountsSound, pairsSound, linksSound, withinLimits, soundRows, sound}
+use Rattle.rules.specs.Entries as Entry
+use Rattle.rules.specs.Directory.{Rows, rowsOf, csdLimit, securityLimit, accountLimit, pairLimit, linkLimit, noCsd, noAccount, external, inBooks, uses, joins, isJoined, isPaired, isLink, isIssuer, isInvestor, isLinkTo, hasLink, hasIssuer, hasInvestor, hasLinkTo}
+use Rattle.rules.specs.Entries.{accountsSound, pairsSound, linksSound, withinLimits, soundRows, sound}
 use Rattle.rules.proofs.Basics.{clash, and-both, or-cases, eqb-is, eqb-true, eqb-false, ltb-is, leb-is, any-true}
 use Rattle.rules.proofs.Facts.{PairFacts, LinkFacts, Facts}
 use Rattle.rules.proofs.InOrder.{Judged, judged, one-row}

@@ -9,7 +9,8 @@ use lib.ListN.{length, take, set, length-set, length-take, length-replicate}
 use lib.Seq.{take-suc-set}
 use Rattle.rules.specs.Types.{Directory}
 use Rattle.rules.specs.Tests.{isFull, lowest}
-use Rattle.rules.specs.Directory.{Row, csdRow, securityRow, accountRow, pairRow, linkRow, rowsOf, rowConditions, addRow, emptyDirectory, sound, withinLimits, soundRows, csdsSound, securitiesSound, accountsSound, pairsSound, linksSound, csdLimit, securityLimit, accountLimit, pairLimit, linkLimit, blankCsd, blankSecurity, blankAccount, blankPair, blankLink}
+use Rattle.rules.specs.Directory.{rowsOf, csdLimit, securityLimit, accountLimit, pairLimit, linkLimit}
+use Rattle.rules.specs.Entries.{Row, csdRow, securityRow, accountRow, pairRow, linkRow, rowConditions, addRow, emptyDirectory, sound, withinLimits, soundRows, csdsSound, securitiesSound, accountsSound, pairsSound, linksSound, blankCsd, blankSecurity, blankAccount, blankPair, blankLink}
 use Rattle.rules.specs.Demands.{withRow, noRows}
 use Rattle.rules.proofs.Basics.{leb-not, quiet}
 

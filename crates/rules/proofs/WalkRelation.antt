@@ -5,6 +5,7 @@ use mathlib.Core.List.{List, [], _∷_}
 use Prim.Native.Nat.{ℕ}
 use Rattle.rules.specs.Types.{Hop, Ends, On, WalkEnd, Inside, Outside, NoLink}
 use Rattle.rules.specs.Directory.{Rows}
+use Rattle.rules.specs.Lookups.{ask}
 use Rattle.rules.specs.Walks.{sideLimit, Walk, defaultHop, directedHop, defaultWalk, directedWalk, arrived, reached}
 use Rattle.rules.specs.Relations.{Walks, endsOutside, endsInside, endsWithoutLink, goesOn, DefaultWalk, Directs, arrives, takes, follows, DirectedWalk}
 use Rattle.rules.proofs.Basics.{clash, eqb-is}
@@ -14,7 +15,7 @@ use Rattle.rules.proofs.Runs.{Runs, ends, goes, walk-short, walk-runs, 
 
 module _ (r : Rows) (s : ℕ) where
   -- ---- default walks
-  pub walks-runs : Facts r → (c : ℕ) (path : List ℕ) (e : WalkEnd) → Walks (r .csds) (r .links) s c path e → Runs (defaultHop (r .csds) (r .links) s) c path e
+  pub walks-runs : Facts r → (c : ℕ) (path : List ℕ) (e : WalkEnd) → Walks (r .csds) (r .links) s c path e → Runs (defaultHop (ask r) s) c path e
   walks-runs F c path e (endsOutside x) = ends (hops-default r s F c (Ends (Outside c)) (outside x))
   walks-runs F c path e (endsInside l x i) = ends (hops-default r s F c (Ends (Inside c)) (inside l x i))
   walks-runs F c path e (endsWithoutLink x n m) = ends (hops-default r s F c (Ends NoLink) (linkless x n m))
@@ -31,27 +32,27 @@ module _ (r : Rows) (s : ℕ) where
   walked c h (linkless x n m) = endsWithoutLink x n m
   walked c h (onward l x n d) = λ path e w. goesOn l x n d w
 
-  runs-walks : (c : ℕ) (path : List ℕ) (e : WalkEnd) → Runs (defaultHop (r .csds) (r .links) s) c path e → Walks (r .csds) (r .links) s c path e
-  runs-walks c path e (ends q) = rw q at (walked c (defaultHop (r .csds) (r .links) s c) (default-hops r s c))
-  runs-walks c path e (goes {n = n} {path = rest} q w) = (rw q at (walked c (defaultHop (r .csds) (r .links) s c) (default-hops r s c))) rest e (runs-walks n rest e w)
+  runs-walks : (c : ℕ) (path : List ℕ) (e : WalkEnd) → Runs (defaultHop (ask r) s) c path e → Walks (r .csds) (r .links) s c path e
+  runs-walks c path e (ends q) = rw q at (walked c (defaultHop (ask r) s c) (default-hops r s c))
+  runs-walks c path e (goes {n = n} {path = rest} q w) = (rw q at (walked c (defaultHop (ask r) s c) (default-hops r s c))) rest e (runs-walks n rest e w)
 
   pub default-walk : Facts r → (c : ℕ) (path : List ℕ) (e : WalkEnd) → DefaultWalk (r .csds) (r .links) s c path e
-      → defaultWalk (r .csds) (r .links) s c ≡ record { end = e; path = path }
-  default-walk F c path e w = runs-walk (defaultHop (r .csds) (r .links) s) c path e (walks-runs F c path e (w .walks)) sideLimit (w .short)
+      → defaultWalk (ask r) s c ≡ record { end = e; path = path }
+  default-walk F c path e w = runs-walk (defaultHop (ask r) s) c path e (walks-runs F c path e (w .walks)) sideLimit (w .short)
 
-  pub walk-default : (c : ℕ) (e : WalkEnd) → defaultWalk (r .csds) (r .links) s c .end ≡ e → arrived e ≡ true
-      → DefaultWalk (r .csds) (r .links) s c (defaultWalk (r .csds) (r .links) s c .path) e
+  pub walk-default : (c : ℕ) (e : WalkEnd) → defaultWalk (ask r) s c .end ≡ e → arrived e ≡ true
+      → DefaultWalk (r .csds) (r .links) s c (defaultWalk (ask r) s c .path) e
   walk-default c e q a =
       record {
-        walks = runs-walks c (w .path) e (rw q at (walk-runs (defaultHop (r .csds) (r .links) s) sideLimit c (λ t. clash (arrived e) a (ap arrived (sym q ∙ t)))));
-        short = walk-short (defaultHop (r .csds) (r .links) s) sideLimit c;
+        walks = runs-walks c (w .path) e (rw q at (walk-runs (defaultHop (ask r) s) sideLimit c (λ t. clash (arrived e) a (ap arrived (sym q ∙ t)))));
+        short = walk-short (defaultHop (ask r) s) sideLimit c;
       }
     where
       w : Walk
-      w = defaultWalk (r .csds) (r .links) s c
+      w = defaultWalk (ask r) s c
 
   -- ---- directed walks
-  pub directs-runs : Facts r → (t c : ℕ) (path : List ℕ) → Directs (r .csds) (r .links) s t c path → Runs (directedHop (r .csds) (r .links) s t) c path (Inside t)
+  pub directs-runs : Facts r → (t c : ℕ) (path : List ℕ) → Directs (r .csds) (r .links) s t c path → Runs (directedHop (ask r) s t) c path (Inside t)
   directs-runs F t c path arrives = ends (hops-directed r s F t t (Ends (Inside t)) (atTarget refl))
   directs-runs F t c path (takes l n x k) = goes (hops-directed r s F t c (On t) (taken l n x k)) (ends (hops-directed r s F t t (Ends (Inside t)) (atTarget refl)))
   directs-runs F t c path (follows {path = rest} l n x k i d w) =
@@ -67,14 +68,14 @@ module _ (r : Rows) (s : ℕ) where
   stays t h (taken l n x k) = absurd (n refl)
   stays t h (default n k d) = absurd (n refl)
 
-  at-target : (t : ℕ) (path : List ℕ) (e : WalkEnd) → Runs (directedHop (r .csds) (r .links) s t) t path e → path ≡ t ∷ []
+  at-target : (t : ℕ) (path : List ℕ) (e : WalkEnd) → Runs (directedHop (ask r) s t) t path e → path ≡ t ∷ []
   at-target t path e (ends q) = refl
-  at-target t path e (goes q w) = absurd (rw q at (stays t (directedHop (r .csds) (r .links) s t t) (directed-hops r s t t)))
+  at-target t path e (goes q w) = absurd (rw q at (stays t (directedHop (ask r) s t t) (directed-hops r s t t)))
 
   -- what a hop at the CSD c says of the walks from there that reach t
   abbrev Directed : ℕ → ℕ → Hop → Type 0
   Directed t c (Ends e) = reached t e ≡ true → Directs (r .csds) (r .links) s t c (c ∷ [])
-  Directed t c (On n) = (path : List ℕ) (e : WalkEnd) → Runs (directedHop (r .csds) (r .links) s t) n path e → Directs (r .csds) (r .links) s t n path
+  Directed t c (On n) = (path : List ℕ) (e : WalkEnd) → Runs (directedHop (ask r) s t) n path e → Directs (r .csds) (r .links) s t n path
       → Directs (r .csds) (r .links) s t c (c ∷ path)
 
   directed : (t c : ℕ) (h : Hop) → DirectedHops r s t c h → Directed t c h
@@ -85,22 +86,22 @@ module _ (r : Rows) (s : ℕ) where
   directed t c h (default n k (linkless x i d)) = λ q. absurd (true≢false (sym q))
   directed t c h (default n k (onward l x i d)) = λ path e u w. follows l n x (k x) i d w
 
-  runs-directs : (t c : ℕ) (path : List ℕ) (e : WalkEnd) → reached t e ≡ true → Runs (directedHop (r .csds) (r .links) s t) c path e → Directs (r .csds) (r .links) s t c path
-  runs-directs t c path e a (ends q) = (rw q at (directed t c (directedHop (r .csds) (r .links) s t c) (directed-hops r s t c))) a
+  runs-directs : (t c : ℕ) (path : List ℕ) (e : WalkEnd) → reached t e ≡ true → Runs (directedHop (ask r) s t) c path e → Directs (r .csds) (r .links) s t c path
+  runs-directs t c path e a (ends q) = (rw q at (directed t c (directedHop (ask r) s t c) (directed-hops r s t c))) a
   runs-directs t c path e a (goes {n = n} {path = rest} q w) =
-      (rw q at (directed t c (directedHop (r .csds) (r .links) s t c) (directed-hops r s t c))) rest e w (runs-directs t n rest e a w)
+      (rw q at (directed t c (directedHop (ask r) s t c) (directed-hops r s t c))) rest e w (runs-directs t n rest e a w)
 
   pub directed-walk : Facts r → (t c : ℕ) (path : List ℕ) → DirectedWalk (r .csds) (r .links) s t c path
-      → directedWalk (r .csds) (r .links) s t c ≡ record { end = Inside t; path = path }
-  directed-walk F t c path w = runs-walk (directedHop (r .csds) (r .links) s t) c path (Inside t) (directs-runs F t c path (w .directs)) sideLimit (w .short)
+      → directedWalk (ask r) s t c ≡ record { end = Inside t; path = path }
+  directed-walk F t c path w = runs-walk (directedHop (ask r) s t) c path (Inside t) (directs-runs F t c path (w .directs)) sideLimit (w .short)
 
-  pub walk-directed : (t c : ℕ) → reached t (directedWalk (r .csds) (r .links) s t c .end) ≡ true
-      → DirectedWalk (r .csds) (r .links) s t c (directedWalk (r .csds) (r .links) s t c .path)
+  pub walk-directed : (t c : ℕ) → reached t (directedWalk (ask r) s t c .end) ≡ true
+      → DirectedWalk (r .csds) (r .links) s t c (directedWalk (ask r) s t c .path)
   walk-directed t c a =
       record {
-        directs = runs-directs t c (w .path) (w .end) a (walk-runs (directedHop (r .csds) (r .links) s t) sideLimit c (λ u. clash (reached t (w .end)) a (ap (reached t) u)));
-        short = walk-short (directedHop (r .csds) (r .links) s t) sideLimit c;
+        directs = runs-directs t c (w .path) (w .end) a (walk-runs (directedHop (ask r) s t) sideLimit c (λ u. clash (reached t (w .end)) a (ap (reached t) u)));
+        short = walk-short (directedHop (ask r) s t) sideLimit c;
       }
     where
       w : Walk
-      w = directedWalk (r .csds) (r .links) s t c
+      w = directedWalk (ask r) s t c

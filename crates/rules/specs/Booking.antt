@@ -7,10 +7,11 @@ use lib.IntN.{ℤ, pos, negℤ, _+ℤ_, natAbs}
 use lib.Signed.{ltZ}
 use lib.Dec.{ltb, eqb}
 use lib.ListN.{getD, set}
-use Rattle.rules.specs.Types.{Account, Csd, Pair, Link, Step, Units, Cents, SecurityTotal, SumUnits, NoUnits, CashTotal, SumCents, NoCents}
-use Rattle.rules.specs.Tests.{any, isRow, Condition, _when_, lowest}
-use Rattle.rules.specs.Directory.{Rows, securityLimit, accountLimit, external, isKind, pairOf, issuerLink, defaultLink}
-use Rattle.rules.specs.Chain.{Chain, chained, unchained, stepsOf, chainConditions, homeOf, step}
+use Rattle.rules.specs.Types.{Pair, Step, Units, Cents, SecurityTotal, SumUnits, NoUnits, CashTotal, SumCents, NoCents}
+use Rattle.rules.specs.Tests.{any, Condition, _when_, lowest}
+use Rattle.rules.specs.Directory.{securityLimit, accountLimit}
+use Rattle.rules.specs.Lookups.{Lookups}
+use Rattle.rules.specs.Chain.{Chain, chained, unchained, stepsOf, chainConditions, step}
 
 -- "10^15"
 abbrev pub limit : ℕ
@@ -86,16 +87,16 @@ booked [] s q p = p
 booked (x ∷ xs) s q p = booked xs s q (moved x s q p)
 
 -- "A debited participant or omnibus position must not fall below 0; mirror, inter-CSD and issuance may."
-abbrev pub floored : List Account → ℕ → Bool
-floored acc a = isKind acc a 0 || isKind acc a 1
+abbrev pub floored : (ℕ → ℕ → Bool) → ℕ → Bool
+floored kind a = kind a 0 || kind a 1
 
 -- one step is short: the account debited is a participant or omnibus account that holds less than q
-abbrev pub stepShort : List Account → List ℤ → ℕ → ℕ → Step → Bool
-stepShort acc p s q x = floored acc (x .debited) && ltZ (position p s (x .debited) .0) (pos q)
+abbrev pub stepShort : (ℕ → ℕ → Bool) → List ℤ → ℕ → ℕ → Step → Bool
+stepShort kind p s q x = floored kind (x .debited) && ltZ (position p s (x .debited) .0) (pos q)
 
 -- 20: "securities short", over all steps; "Sums are judged on the store before the call."
-unfoldable pub unitsShort : List Account → List ℤ → ℕ → ℕ → List Step → Bool
-unitsShort acc p s q xs = any (stepShort acc p s q) xs
+unfoldable pub unitsShort : (ℕ → ℕ → Bool) → List ℤ → ℕ → ℕ → List Step → Bool
+unitsShort kind p s q xs = any (stepShort kind p s q) xs
 
 -- one of the two numbers that a step changes would end beyond ±10^15
 abbrev pub stepBeyond : List ℤ → ℕ → ℕ → Step → Bool
@@ -147,18 +148,13 @@ mirrorOf none = none
 mirrorOf (some p) = some (p .mirror)
 
 -- "the inter-CSD account of its default link to an external CSD"
-abbrev pub interCsd : List Csd → List Pair → ℕ → Option Link → Option ℕ
-interCsd cs ps c none = none
-interCsd cs ps c (some l) = cond (external cs (l .technical)) (mirrorOf (pairOf ps c (l .technical))) none
+abbrev pub interCsd : Lookups → ℕ → Option ℕ → Option ℕ
+interCsd k c none = none
+interCsd k c (some t) = cond (k .outside t) (mirrorOf (k .pair c t)) none
 
--- "in its CSD, the issuance account of its issuer link, else the inter-CSD account"
-abbrev pub issuanceElse : Option Link → Option ℕ → Option ℕ
-issuanceElse (some l) other = some (l .account)
-issuanceElse none other = other
-
--- the contra account of a bring-in or take-out in the CSD c: none is 19
-unfoldable pub contra : List Csd → List Pair → List Link → ℕ → ℕ → Option ℕ
-contra cs ps ls s c = issuanceElse (issuerLink ls s c) (interCsd cs ps c (defaultLink ls s c))
+-- the contra account of a bring-in or take-out: "in its CSD, the issuance account of its issuer link, else the inter-CSD account"; none is 19
+unfoldable pub contra : Lookups → ℕ → ℕ → Option ℕ
+contra k s c = cond (k .issuer s c) (some (k .issuing s c)) (interCsd k c (k .onward s c))
 
 -- "Bring in credits a participant account and debits" the contra account; "Take out is the reverse."
 abbrev pub moveStep : Way → ℕ → ℕ → ℕ → Step
@@ -171,18 +167,18 @@ moveBy w c a none = unchained 19
 moveBy w c a (some other) = chained (moveStep w c a other ∷ [])
 
 -- the chain of one step that a bring-in or take-out books
-unfoldable pub moveChain : Rows → Way → ℕ → ℕ → Chain
-moveChain r w a s = moveBy w (homeOf (r .accounts) a) a (contra (r .csds) (r .pairs) (r .links) s (homeOf (r .accounts) a))
+unfoldable pub moveChain : Lookups → Way → ℕ → ℕ → Chain
+moveChain k w a s = moveBy w (k .home a) a (contra k s (k .home a))
 
 -- 6 to 22 of a bring-in or take-out of q units of s on the account a
-abbrev pub moveConditions : Rows → List ℤ → Way → ℕ → ℕ → ℕ → List Condition
-moveConditions r p w a s q =
-    6 when (not (isRow (r .accounts) a) || not (isRow (r .securities) s))
+abbrev pub moveConditions : Lookups → List ℤ → Way → ℕ → ℕ → ℕ → List Condition
+moveConditions k p w a s q =
+    6 when (not (k .account a) || not (k .security s))
     ∷ 7 when outOfRange q
-    ∷ 10 when not (isKind (r .accounts) a 0)
-    ∷ chainConditions (moveChain r w a s)
-    ++ (20 when unitsShort (r .accounts) p s q (stepsOf (moveChain r w a s))
-    ∷ 22 when unitsBeyond p s q (stepsOf (moveChain r w a s))
+    ∷ 10 when not (k .kind a 0)
+    ∷ chainConditions (moveChain k w a s)
+    ++ (20 when unitsShort (k .kind) p s q (stepsOf (moveChain k w a s))
+    ∷ 22 when unitsBeyond p s q (stepsOf (moveChain k w a s))
     ∷ [])
 
 -- ---- pay in and pay out
@@ -198,11 +194,11 @@ payShort incoming c a m = false
 payShort outgoing c a m = cashShort c a m
 
 -- 6 to 22 of an amount m paid in or out on the account a
-abbrev pub payConditions : Rows → List ℤ → Way → ℕ → ℕ → List Condition
-payConditions r c w a m =
-    6 when not (isRow (r .accounts) a)
+abbrev pub payConditions : Lookups → List ℤ → Way → ℕ → ℕ → List Condition
+payConditions k c w a m =
+    6 when not (k .account a)
     ∷ 7 when outOfRange m
-    ∷ 10 when not (isKind (r .accounts) a 0)
+    ∷ 10 when not (k .kind a 0)
     ∷ 21 when payShort w c a m
     ∷ 22 when cashBeyond c a (payment w m)
     ∷ []
@@ -220,16 +216,16 @@ sumBeyond w f zero = false
 sumBeyond w f (suc n) = sumBeyond w f n || (w n && beyond (f n))
 
 -- "sum of participant positions" in the security s
-abbrev pub participants : List Account → ℕ → Bool
-participants acc a = isKind acc a 0
+abbrev pub participants : (ℕ → ℕ → Bool) → ℕ → Bool
+participants kind a = kind a 0
 
 -- the number held by the account a in the security s
 abbrev pub heldIn : List ℤ → ℕ → ℕ → ℤ
 heldIn p s a = position p s a .0
 
 -- the total of a security
-abbrev pub participantSum : List Account → List ℤ → ℕ → Units
-participantSum acc p s = record { 0 = sum (participants acc) (heldIn p s) accountLimit }
+abbrev pub participantSum : (ℕ → ℕ → Bool) → List ℤ → ℕ → Units
+participantSum kind p s = record { 0 = sum (participants kind) (heldIn p s) accountLimit }
 
 -- the sum of cash, over all 256 balances
 abbrev pub everyAccount : ℕ → Bool
@@ -254,16 +250,16 @@ cashTotalBy zero z = SumCents z
 cashTotalBy (suc n) z = NoCents (suc n)
 
 -- "Totals over a lent number beyond ±10^15 are refused 22."
-abbrev pub securityTotalConditions : Rows → List ℤ → ℕ → List Condition
-securityTotalConditions r p s = 6 when not (isRow (r .securities) s) ∷ 22 when sumBeyond (participants (r .accounts)) (heldIn p s) accountLimit ∷ []
+abbrev pub securityTotalConditions : Lookups → List ℤ → ℕ → List Condition
+securityTotalConditions k p s = 6 when not (k .security s) ∷ 22 when sumBeyond (participants (k .kind)) (heldIn p s) accountLimit ∷ []
 
 -- 22 of the cash total
 abbrev pub cashTotalConditions : List ℤ → List Condition
 cashTotalConditions c = 22 when sumBeyond everyAccount (cashOn c) cashCount ∷ []
 
 -- the total of a security over a directory, sound or not
-unfoldable pub securityTotal : Rows → List ℤ → ℕ → SecurityTotal
-securityTotal r p s = securityTotalBy (lowest (securityTotalConditions r p s)) (participantSum (r .accounts) p s)
+unfoldable pub securityTotal : Lookups → List ℤ → ℕ → SecurityTotal
+securityTotal k p s = securityTotalBy (lowest (securityTotalConditions k p s)) (participantSum (k .kind) p s)
 
 -- the total of cash over any list of balances
 unfoldable pub cashTotal : List ℤ → CashTotal

@@ -5,9 +5,11 @@ use mathlib.Core.List.{List, [], _∷_, _++_}
 use lib.IntN.{ℤ, pos}
 use lib.Dec.{ltb, eqb}
 use lib.ListN.{length, drop}
-use Rattle.rules.specs.Types.{Account, Directory, Half, Step, Answer, Accepted, Booked, Chained, Refused, SecurityTotal, CashTotal}
-use Rattle.rules.specs.Tests.{isRow, Condition, _when_, lowest}
-use Rattle.rules.specs.Directory.{Rows, rowsOf, Row, rowConditions, addRow, isKind, inBooks, emptyDirectory, sound}
+use Rattle.rules.specs.Types.{Directory, Half, Step, Answer, Accepted, Booked, Chained, Refused, SecurityTotal, CashTotal}
+use Rattle.rules.specs.Tests.{Condition, _when_, lowest}
+use Rattle.rules.specs.Directory.{rowsOf}
+use Rattle.rules.specs.Entries.{Row, rowConditions, addRow, emptyDirectory, sound}
+use Rattle.rules.specs.Lookups.{Lookups, ask}
 use Rattle.rules.specs.Chain.{Chain, chain, stepsOf, chainConditions, stepLimit}
 use Rattle.rules.specs.Booking
 use Rattle.rules.specs.Booking.{Way, positionCount, cashCount, booked, paid, addCents, payment, moveChain, moveConditions, payConditions}
@@ -53,50 +55,50 @@ isAccepted (Refused n) = false
 -- ---- two halves
 
 -- 6 of a half: its account, counterpart CSD or security "names no row"
-abbrev pub halfUnknown : Rows → Half → Bool
-halfUnknown r h = not (isRow (r .accounts) (h .account)) || (not (isRow (r .csds) (h .counterpart)) || not (isRow (r .securities) (h .security)))
+abbrev pub halfUnknown : Lookups → Half → Bool
+halfUnknown k h = not (k .account (h .account)) || (not (k .csd (h .counterpart)) || not (k .security (h .security)))
 
 -- 7 of a half
 abbrev pub halfOutOfRange : Half → Bool
 halfOutOfRange h = Booking.outOfRange (h .quantity) || Booking.amountOutOfRange (h .amount)
 
 -- 12: "security, quantity, amount differ, or a counterpart isn't the other's CSD"
-abbrev pub halvesDiffer : List Account → Half → Half → Bool
-halvesDiffer acc h g =
+abbrev pub halvesDiffer : Lookups → Half → Half → Bool
+halvesDiffer k h g =
     not (eqb (h .security) (g .security))
     || (not (eqb (h .quantity) (g .quantity))
     || (not (eqb (h .amount) (g .amount))
-    || (not (inBooks acc (g .account) (h .counterpart)) || not (inBooks acc (h .account) (g .counterpart)))))
+    || (not (k .books (g .account) (h .counterpart)) || not (k .books (h .account) (g .counterpart)))))
 
 -- 6 to 13, each over both halves: h delivers, g receives
-abbrev pub halvesConditions : Rows → Half → Half → List Condition
-halvesConditions r h g =
-    6 when (halfUnknown r h || halfUnknown r g)
+abbrev pub halvesConditions : Lookups → Half → Half → List Condition
+halvesConditions k h g =
+    6 when (halfUnknown k h || halfUnknown k g)
     ∷ 7 when (halfOutOfRange h || halfOutOfRange g)
-    ∷ 10 when (not (isKind (r .accounts) (h .account) 0) || not (isKind (r .accounts) (g .account) 0))
-    ∷ 12 when halvesDiffer (r .accounts) h g
+    ∷ 10 when (not (k .kind (h .account) 0) || not (k .kind (g .account) 0))
+    ∷ 12 when halvesDiffer k h g
     ∷ 13 when eqb (h .account) (g .account)
     ∷ []
 
 -- the chain of two halves
-abbrev pub halvesChain : Rows → Half → Half → Chain
-halvesChain r h g = chain r (h .security) (h .account) (g .account)
+abbrev pub halvesChain : Lookups → Half → Half → Chain
+halvesChain k h g = chain k (h .security) (h .account) (g .account)
 
 -- 6 to 18
-abbrev pub deriveConditions : Rows → Half → Half → List Condition
-deriveConditions r h g = halvesConditions r h g ++ chainConditions (halvesChain r h g)
+abbrev pub deriveConditions : Lookups → Half → Half → List Condition
+deriveConditions k h g = halvesConditions k h g ++ chainConditions (halvesChain k h g)
 
 -- 20 over all steps, 21, then 22 over all changed numbers, "judged on the store before the call"
-abbrev pub bookConditions : Rows → List ℤ → List ℤ → Half → Half → List Step → List Condition
-bookConditions r p c h g steps =
-    20 when Booking.unitsShort (r .accounts) p (h .security) (h .quantity) steps
+abbrev pub bookConditions : Lookups → List ℤ → List ℤ → Half → Half → List Step → List Condition
+bookConditions k p c h g steps =
+    20 when Booking.unitsShort (k .kind) p (h .security) (h .quantity) steps
     ∷ 21 when Booking.cashShort c (g .account) (h .amount)
     ∷ 22 when (Booking.unitsBeyond p (h .security) (h .quantity) steps || Booking.paymentBeyond c (g .account) (h .account) (h .amount))
     ∷ []
 
 -- 6 to 22
-abbrev pub settleConditions : Rows → List ℤ → List ℤ → Half → Half → List Condition
-settleConditions r p c h g = deriveConditions r h g ++ bookConditions r p c h g (stepsOf (halvesChain r h g))
+abbrev pub settleConditions : Lookups → List ℤ → List ℤ → Half → Half → List Condition
+settleConditions k p c h g = deriveConditions k h g ++ bookConditions k p c h g (stepsOf (halvesChain k h g))
 
 -- ---- the conditions of a call
 
@@ -112,10 +114,10 @@ misfit (derive h g lent) st = ltb (length lent) stepLimit
 -- 5 to 22
 abbrev pub coreConditions : Call → Store → List Condition
 coreConditions (enter x) st = rowConditions (rowsOf (st .directory)) x
-coreConditions (move w a s q) st = moveConditions (rowsOf (st .directory)) (st .positions) w a s q
-coreConditions (pay w a m) st = payConditions (rowsOf (st .directory)) (st .cash) w a m
-coreConditions (settle h g lent) st = settleConditions (rowsOf (st .directory)) (st .positions) (st .cash) h g
-coreConditions (derive h g lent) st = deriveConditions (rowsOf (st .directory)) h g
+coreConditions (move w a s q) st = moveConditions (ask (rowsOf (st .directory))) (st .positions) w a s q
+coreConditions (pay w a m) st = payConditions (ask (rowsOf (st .directory))) (st .cash) w a m
+coreConditions (settle h g lent) st = settleConditions (ask (rowsOf (st .directory))) (st .positions) (st .cash) h g
+coreConditions (derive h g lent) st = deriveConditions (ask (rowsOf (st .directory))) h g
 
 -- 3 to 22: 4 is "not sound"
 abbrev pub deskConditions : Call → Store → List Condition
@@ -140,10 +142,10 @@ lentSteps (derive h g lent) = lent
 -- the chain that a call books or derives
 abbrev pub chainFor : Call → Store → List Step
 chainFor (enter x) st = []
-chainFor (move w a s q) st = stepsOf (moveChain (rowsOf (st .directory)) w a s)
+chainFor (move w a s q) st = stepsOf (moveChain (ask (rowsOf (st .directory))) w a s)
 chainFor (pay w a m) st = []
-chainFor (settle h g lent) st = stepsOf (halvesChain (rowsOf (st .directory)) h g)
-chainFor (derive h g lent) st = stepsOf (halvesChain (rowsOf (st .directory)) h g)
+chainFor (settle h g lent) st = stepsOf (halvesChain (ask (rowsOf (st .directory))) h g)
+chainFor (derive h g lent) st = stepsOf (halvesChain (ask (rowsOf (st .directory))) h g)
 
 -- what an accepted call answers: K is the chain's length
 abbrev pub success : Call → Store → Answer
@@ -198,8 +200,8 @@ desk c st = outcome (lowest (deskConditions c st)) c st
 unfoldable pub deskSecurityTotal : Directory → List ℤ → ℕ → SecurityTotal
 deskSecurityTotal d p s =
     Booking.securityTotalBy
-    (lowest (3 when not (eqb (length p) positionCount) ∷ 4 when not (sound d) ∷ Booking.securityTotalConditions (rowsOf d) p s))
-    (Booking.participantSum (rowsOf d .accounts) p s)
+    (lowest (3 when not (eqb (length p) positionCount) ∷ 4 when not (sound d) ∷ Booking.securityTotalConditions (ask (rowsOf d)) p s))
+    (Booking.participantSum (ask (rowsOf d) .kind) p s)
 
 -- the total of cash: 3, then 22
 unfoldable pub deskCashTotal : List ℤ → CashTotal

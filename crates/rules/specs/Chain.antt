@@ -3,11 +3,12 @@ use Prim.Native.Nat.{ℕ, zero, suc, _*_, _-_}
 use mathlib.Core.Bool.{Bool, true, false, not, _&&_, cond}
 use mathlib.Core.List.{List, [], _∷_, _++_, map, reverse}
 use mathlib.Core.Option.{Option, none, some}
-use lib.ListN.{getElem?, take}
+use lib.ListN.{take}
 use lib.Dec.{eqb}
-use Rattle.rules.specs.Types.{Csd, Account, Pair, Link, Step, Steps, ChainFound, WalkEnd, Inside, Outside, NoLink, TooLong, Verdict, TwoIssuers, TwoExternals, Apart, Join, Meeting, Issuers, Externals}
+use Rattle.rules.specs.Types.{Pair, Step, Steps, ChainFound, WalkEnd, Inside, Outside, NoLink, TooLong, Verdict, TwoIssuers, TwoExternals, Apart, Join, Meeting, Issuers, Externals}
 use Rattle.rules.specs.Tests.{any, find, Condition, _when_}
-use Rattle.rules.specs.Directory.{Rows, noCsd, noAccount, external, pairOf, issuerLink}
+use Rattle.rules.specs.Directory.{noCsd}
+use Rattle.rules.specs.Lookups.{Lookups}
 use Rattle.rules.specs.Walks.{Walk, defaultWalk, directedWalk, arrived, reached}
 
 -- "K is at most 16"
@@ -49,12 +50,12 @@ unfoldable pub isNamed : List ℕ → ℕ → Bool
 isNamed path c = any (eqb c) path
 
 -- "the first shared CSD": the first CSD in T2S of D's path that R's path names too
-unfoldable pub firstShared : List Csd → List ℕ → List ℕ → Option ℕ
-firstShared cs p q = find (λ c. not (external cs c) && isNamed q c) p
+unfoldable pub firstShared : Lookups → List ℕ → List ℕ → Option ℕ
+firstShared k p q = find (λ c. not (k .outside c) && isNamed q c) p
 
 -- "Both default walks end inside or outside and share a CSD in T2S"
-abbrev pub shared : List Csd → Walk → Walk → Option ℕ
-shared cs w v = cond (arrived (w .end) && arrived (v .end)) (firstShared cs (w .path) (v .path)) none
+abbrev pub shared : Lookups → Walk → Walk → Option ℕ
+shared k w v = cond (arrived (w .end) && arrived (v .end)) (firstShared k (w .path) (v .path)) none
 
 -- the path up to the CSD m, m included
 unfoldable pub upTo : ℕ → List ℕ → List ℕ
@@ -71,14 +72,14 @@ byShared none w v later = later
 -- 2. "D's walk to the first shared CSD, then R's walk backwards from it."
 -- 3. "Else the directed walk from D to R, if it reaches; else the one from R to D, reversed, if it reaches."
 -- 4. "Else the default walks again": their ends are judged together.
-unfoldable pub route : List Csd → List Link → ℕ → ℕ → ℕ → Route
-route cs ls s D R =
-    let w = defaultWalk cs ls s D in
-    let v = defaultWalk cs ls s R in
-    let x = directedWalk cs ls s R D in
-    let y = directedWalk cs ls s D R in
+unfoldable pub route : Lookups → ℕ → ℕ → ℕ → Route
+route k s D R =
+    let w = defaultWalk k s D in
+    let v = defaultWalk k s R in
+    let x = directedWalk k s R D in
+    let y = directedWalk k s D R in
     cond (eqb D R) (sides Meeting (D ∷ []) (R ∷ []))
-    (byShared (shared cs w v) w v
+    (byShared (shared k w v) w v
     (cond (reached R (x .end)) (sides Meeting (x .path) (R ∷ []))
     (cond (reached D (y .end)) (sides Meeting (D ∷ []) (y .path))
     (joinedBy (judged (w .end) (v .end)) (w .path) (v .path)))))
@@ -106,10 +107,10 @@ over c a none onward = unpaired
 over c a (some p) onward = stepUp (step c a (p .mirror)) (onward (p .omnibus))
 
 -- a side climbed over the pairs of each CSD and the next; a pair that is not entered leaves it unpaired
-unfoldable pub climb : List Pair → List ℕ → ℕ → Climb
-climb ps [] a = climbed [] a
-climb ps (c ∷ []) a = climbed [] a
-climb ps (c ∷ n ∷ path) a = over c a (pairOf ps c n) (λ b. climb ps (n ∷ path) b)
+unfoldable pub climb : Lookups → List ℕ → ℕ → Climb
+climb k [] a = climbed [] a
+climb k (c ∷ []) a = climbed [] a
+climb k (c ∷ n ∷ path) a = over c a (k .pair c n) (λ b. climb k (n ∷ path) b)
 
 -- "towards the receiving side likewise": its steps run downwards, and what is debited for one side is credited for the other
 abbrev pub flip : Step → Step
@@ -125,21 +126,12 @@ lastOf [] = noCsd
 lastOf (c ∷ []) = c
 lastOf (c ∷ n ∷ path) = lastOf (n ∷ path)
 
--- a link's account
-abbrev pub accountOf : Option Link → ℕ
-accountOf none = noAccount
-accountOf (some l) = l .account
-
--- the issuance account of the CSD's issuer link
-unfoldable pub issuance : List Link → ℕ → ℕ → ℕ
-issuance ls s c = accountOf (issuerLink ls s c)
-
 -- what stands between two sides whose last CSDs are i and j: one step where they meet; "where it ends at one of two issuers, the
 -- issuance account"; none at external ends, "external CSDs dropped"
-abbrev pub topSteps : List Link → ℕ → Join → ℕ → ℕ → ℕ → ℕ → List Step
-topSteps ls s Meeting i j a b = step i a b ∷ []
-topSteps ls s Issuers i j a b = step i a (issuance ls s i) ∷ step j (issuance ls s j) b ∷ []
-topSteps ls s Externals i j a b = []
+abbrev pub topSteps : Lookups → ℕ → Join → ℕ → ℕ → ℕ → ℕ → List Step
+topSteps k s Meeting i j a b = step i a b ∷ []
+topSteps k s Issuers i j a b = step i a (k .issuing s i) ∷ step j (k .issuing s j) b ∷ []
+topSteps k s Externals i j a b = []
 
 -- The steps of a chain, or the refusal.
 pub data Chain : Type 0 where
@@ -154,22 +146,13 @@ linkUp top (climbed xs a) (climbed ys b) = chained (xs ++ (top a b ++ turned ys)
 
 -- the steps along a route from the account a to the account b: "Each CSD of the chain gives one step: CSD, account debited, account
 -- credited."
-abbrev pub along : List Pair → List Link → ℕ → ℕ → ℕ → Route → Chain
-along ps ls s a b (apart n) = unchained n
-along ps ls s a b (sides j p q) = linkUp (λ x y. topSteps ls s j (lastOf p) (lastOf q) x y) (climb ps p a) (climb ps q b)
-
--- an account row's CSD
-abbrev pub csdOf : Option Account → ℕ
-csdOf none = noCsd
-csdOf (some a) = a .csd
-
--- "D and R are the CSDs of the delivering and receiving account"
-unfoldable pub homeOf : List Account → ℕ → ℕ
-homeOf acc a = csdOf (getElem? acc a)
+abbrev pub along : Lookups → ℕ → ℕ → ℕ → Route → Chain
+along k s a b (apart n) = unchained n
+along k s a b (sides j p q) = linkUp (λ x y. topSteps k s j (lastOf p) (lastOf q) x y) (climb k p a) (climb k q b)
 
 -- the chain for the security s from the delivering account a to the receiving account b
-unfoldable pub chain : Rows → ℕ → ℕ → ℕ → Chain
-chain r s a b = along (r .pairs) (r .links) s a b (route (r .csds) (r .links) s (homeOf (r .accounts) a) (homeOf (r .accounts) b))
+unfoldable pub chain : Lookups → ℕ → ℕ → ℕ → Chain
+chain k s a b = along k s a b (route k s (k .home a) (k .home b))
 
 -- "K steps mean 2 × K − 2 generated instructions."
 abbrev pub generated : ℕ → ℕ

@@ -11,8 +11,10 @@ use lib.Dec.{eqb}
 use lib.ListN.{length}
 use Rattle.rules.specs.Types.{Account, Pair, Directory, Half, Step, Answer, Accepted, Booked, Chained, Refused}
 use Rattle.rules.specs.Tests.{isRow, Condition, _when_, lowest}
-use Rattle.rules.specs.Directory.{Rows, rowsOf, Row, csdRow, securityRow, accountRow, pairRow, linkRow, addRow, isKind, inBooks, sound, noAccount, accountLimit, securityLimit}
-use Rattle.rules.specs.Chain.{Chain, stepLimit, homeOf}
+use Rattle.rules.specs.Directory.{Rows, rowsOf, isKind, inBooks, noAccount, accountLimit, securityLimit}
+use Rattle.rules.specs.Entries.{Row, csdRow, securityRow, accountRow, pairRow, linkRow, addRow, sound}
+use Rattle.rules.specs.Lookups.{homeOf, ask}
+use Rattle.rules.specs.Chain.{Chain, stepLimit}
 use Rattle.rules.specs.Booking.{Way, incoming, outgoing, limit, cashCount, position, balance, heldIn, cashOn, sum, everyAccount, participants, beyond, contra, moveStep, payment}
 use Rattle.rules.specs.Calls.{Store, Call, enter, move, pay, settle, derive, Outcome, Item, item, Run, run, desk, core, misfit, deskConditions, halfUnknown, halvesConditions, halvesChain, success, written, lentSteps, isAccepted, numberOf, emptyStore}
 use Rattle.rules.specs.Relations.{ChainIs}
@@ -40,7 +42,7 @@ ChainOfHalves st h g steps = ChainIs (rowsOf (st .directory)) (h .security) (h .
 -- nothing before 14 turns the halves away
 abbrev pub Admitted : Store → Half → Half → List Step → Type 0
 Admitted st h g lent =
-    lowest (3 when misfit (derive h g lent) st ∷ 4 when not (sound (st .directory)) ∷ halvesConditions (rowsOf (st .directory)) h g) ≡ 0
+    lowest (3 when misfit (derive h g lent) st ∷ 4 when not (sound (st .directory)) ∷ halvesConditions (ask (rowsOf (st .directory))) h g) ≡ 0
 
 -- a call has answered this chain, and written it to the step list that it was lent
 pub record Returns (o : Outcome) (answer : Answer) (steps lent : List Step) : Type 0 where
@@ -85,8 +87,8 @@ Within z = beyond z ≡ false
 
 -- the halves agree on two participant accounts
 pub record Agree (r : Rows) (h g : Half) : Type 0 where
-  pub delivererNamed : halfUnknown r h ≡ false
-  pub receiverNamed : halfUnknown r g ≡ false
+  pub delivererNamed : halfUnknown (ask r) h ≡ false
+  pub receiverNamed : halfUnknown (ask r) g ≡ false
   pub quantity : (1 ≤ h .quantity) × (h .quantity ≤ limit)
   pub amount : h .amount ≤ limit
   pub deliverer : isKind (r .accounts) (h .account) 0 ≡ true
@@ -158,7 +160,7 @@ Changes (enter x) st st′ = (st′ .directory ≡ addRow x (st .directory)) × 
 Changes (move w a s q) st st′ =
     (st′ .directory ≡ st .directory)
     × ((other : ℕ)
-    × (contra (rowsOf (st .directory) .csds) (rowsOf (st .directory) .pairs) (rowsOf (st .directory) .links) s (homeOf (rowsOf (st .directory) .accounts) a) ≡ some other)
+    × (contra (ask (rowsOf (st .directory))) s (homeOf (rowsOf (st .directory) .accounts) a) ≡ some other)
     × MovedUnits (moveStep w (homeOf (rowsOf (st .directory) .accounts) a) a other ∷ []) s q (st .positions) (st′ .positions))
     × (st′ .cash ≡ st .cash)
 Changes (pay w a m) st st′ =
@@ -290,7 +292,7 @@ pub record Balanced (items : List Item) (st : Store) : Type 0 where
   pub noneNegative : (a s : ℕ) → a < accountLimit → s < securityLimit → ParticipantOrOmnibus (made items .accounts) a → pos 0 ≤ℤ heldIn (st .positions) s a
   pub noCashNegative : (a : ℕ) → a < cashCount → pos 0 ≤ℤ cashOn (st .cash) a
   -- "per security participant positions sum to what was brought in less taken out, cash to paid in less paid out"
-  pub supply : (s : ℕ) → s < securityLimit → sum (participants (made items .accounts)) (heldIn (st .positions) s) accountLimit ≡ brought items s
+  pub supply : (s : ℕ) → s < securityLimit → sum (participants (isKind (made items .accounts))) (heldIn (st .positions) s) accountLimit ≡ brought items s
   pub money : sum everyAccount (cashOn (st .cash)) cashCount ≡ paidIn items
   -- "each booked settlement moved exactly its chain and its amount and nothing else; every other settlement, derivation or refused call
   -- changed nothing"

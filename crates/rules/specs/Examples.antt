@@ -6,7 +6,9 @@ use lib.IntN.{ℤ, pos, negsuc}
 use lib.Dec.{leb}
 use lib.ListN.{length}
 use Rattle.rules.specs.Types.{Csd, Account, Pair, Link, Step, Half, Answer, Accepted, Booked}
-use Rattle.rules.specs.Directory.{Rows, csdRow, securityRow, accountRow, pairRow, linkRow, noCsd, noAccount}
+use Rattle.rules.specs.Directory.{Rows, noCsd, noAccount}
+use Rattle.rules.specs.Entries.{csdRow, securityRow, accountRow, pairRow, linkRow}
+use Rattle.rules.specs.Lookups.{ask}
 use Rattle.rules.specs.Chain.{Chain, chained, unchained, chain, generated}
 use Rattle.rules.specs.Booking.{incoming, heldIn}
 use Rattle.rules.specs.Calls.{Call, enter, move, settle, Item}
@@ -144,7 +146,7 @@ passed (unchained n) = refused n
 
 -- a delivery between participants of the two CSDs
 abbrev pub derived : Example → Passed
-derived e = passed (chain (drawn (e .links)) 0 (e .from * 3) (e .to * 3 + 1))
+derived e = passed (chain (ask (drawn (e .links))) 0 (e .from * 3) (e .to * 3 + 1))
 
 -- ---- the sample run
 

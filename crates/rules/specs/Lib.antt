@@ -2,6 +2,8 @@ pub mod Types
 pub mod Tests
 pub mod Identifiers
 pub mod Directory
+pub mod Lookups
+pub mod Entries
 pub mod Walks
 pub mod Chain
 pub mod Booking

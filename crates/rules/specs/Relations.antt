@@ -8,7 +8,8 @@ use lib.ListN.{length}
 use Rattle.rules.specs.Types.{Csd, Pair, Link, Step, WalkEnd, Inside, Outside, NoLink, TooLong, Join, Meeting, Issuers, Externals}
 use Rattle.rules.specs.Directory.{Rows, external}
 use Rattle.rules.specs.Walks.{sideLimit, arrived}
-use Rattle.rules.specs.Chain.{step, turned, lastOf, homeOf}
+use Rattle.rules.specs.Lookups.{homeOf}
+use Rattle.rules.specs.Chain.{step, turned, lastOf}
 
 module _ (cs : List Csd) (ls : List Link) (s : ℕ) where
   -- an issuer link of the CSD c for the security

@@ -9,7 +9,8 @@ use lib.IntN.{ℤ, pos, negsuc}
 use lib.Dec.{ltb, eqb}
 use lib.ListN.{length, getD, getElem?, take, drop, replicate}
 use Rattle.rules.specs.Types.{Account, Security, Half, Step, Units, Cents, Answer, Accepted, Booked, Chained, Refused}
-use Rattle.rules.specs.Directory.{Row, csdRow, securityRow, accountRow, pairRow, linkRow, rowsOf}
+use Rattle.rules.specs.Directory.{rowsOf, isKind}
+use Rattle.rules.specs.Entries.{Row, csdRow, securityRow, accountRow, pairRow, linkRow}
 use Rattle.rules.specs.Chain.{stepLimit}
 use Rattle.rules.specs.Booking.{Way, incoming, outgoing, participantSum, cashSum}
 use Rattle.rules.specs.Calls.{Store, Call, enter, move, pay, settle, derive, Outcome, desk, countOf, emptyStore}
@@ -172,7 +173,7 @@ totalLine isin z = bytes "total " ++ (take 12 isin ++ (bytes " " ++ (signed (z .
 -- a line for each entered security, from number s on
 unfoldable pub totalLines : List Account → List ℤ → ℕ → List Security → List ℕ
 totalLines acc p s [] = []
-totalLines acc p s (x ∷ xs) = totalLine (x .isin) (participantSum acc p s) ++ totalLines acc p (suc s) xs
+totalLines acc p s (x ∷ xs) = totalLine (x .isin) (participantSum (isKind acc) p s) ++ totalLines acc p (suc s) xs
 
 -- "then `cash` and its sum"
 unfoldable pub cashLine : Cents → List ℕ

@@ -11,20 +11,49 @@ pub const PAIRS: usize = 64;
 
 pub const LINKS: usize = 128;
 
-// Steps of a chain at most.
+// "hex FF": no CSD. "hex FFFF for none": no account.
+pub const NO_CSD: u8 = 0xff;
+
+pub const NO_ACCOUNT: u16 = 0xffff;
+
+// Bytes of a BIC and of an ISIN.
+pub const BIC: usize = 11;
+
+pub const ISIN: usize = 12;
+
+// CSDs that a side names at most, and steps of a chain.
+pub const SIDE: usize = 8;
+
 pub const STEPS: usize = 16;
+
+// Positions of a store, "at account × 16 + security"; of cash there is one balance for each account.
+pub const POSITIONS: usize = ACCOUNTS * SECURITIES;
+
+// 10^15: the largest quantity and amount, and the bound of every number booked.
+pub const LIMIT: u64 = 1_000_000_000_000_000;
 
 // A central securities depository: 0 in T2S, 1 external, and its BIC.
 pub struct Csd {
     pub external: u8,
-    pub bic: [u8; 11],
+    pub bic: [u8; BIC],
 }
 
 pub struct Security {
-    pub isin: [u8; 12],
+    pub isin: [u8; ISIN],
 }
 
-// Kind 0 participant, 1 omnibus, 2 mirror, 3 inter-CSD, 4 issuance.
+// The kinds of account.
+pub const PARTICIPANT: u8 = 0;
+
+pub const OMNIBUS: u8 = 1;
+
+pub const MIRROR: u8 = 2;
+
+pub const INTER_CSD: u8 = 3;
+
+pub const ISSUANCE: u8 = 4;
+
+// An account of a CSD, of one of the kinds.
 pub struct Account {
     pub csd: u8,
     pub kind: u8,

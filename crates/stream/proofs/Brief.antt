@@ -14,6 +14,7 @@ use Rattle.rules.specs.declared.Answer.{Answer}
 use Rattle.rules.specs.declared.Answer.the-variants.{Accepted, Booked, Chained, Refused}
 use Rattle.rules.specs.Tests.{lowest}
 use Rattle.rules.specs.Directory.{Rows, rowsOf}
+use Rattle.rules.specs.Lookups.{ask}
 use Rattle.rules.specs.Chain.{chained, stepsOf, chainConditions, stepLimit}
 use Rattle.rules.specs.Calls.{Store, Call, enter, move, pay, settle, derive, outcome, desk, deskConditions, deriveConditions, bookConditions, halvesConditions, halvesChain, success, lentSteps, written, writtenFor, countOf, numberOf, isAccepted}
 use Rattle.rules.specs.Stream.{stepLine, said, widthOf, callOf, programSteps}
@@ -91,13 +92,13 @@ module _ (st : Store) (ready : Ready st) (h g : Half) (lent : List Step) where
   rows = rowsOf (st .directory)
 
   abbrev xs : List Step
-  xs = stepsOf (halvesChain rows h g)
+  xs = stepsOf (halvesChain (ask rows) h g)
 
   -- K, and what is written to the lent list, which starts with the chain
-  pair-brief : (a : Answer) → countOf a ≡ length xs → Quiet (deriveConditions rows h g) → Brief a (written xs lent)
+  pair-brief : (a : Answer) → countOf a ≡ length xs → Quiet (deriveConditions (ask rows) h g) → Brief a (written xs lent)
   pair-brief a k q =
-      let parts : Quiet (halvesConditions rows h g) × Quiet (chainConditions (halvesChain rows h g)) = quiet-both (halvesConditions rows h g) (chainConditions (halvesChain rows h g)) q in
-      let is : halvesChain rows h g ≡ chained xs = quiet-chained (halvesChain rows h g) (parts .1) in
+      let parts : Quiet (halvesConditions (ask rows) h g) × Quiet (chainConditions (halvesChain (ask rows) h g)) = quiet-both (halvesConditions (ask rows) h g) (chainConditions (halvesChain (ask rows) h g)) q in
+      let is : halvesChain (ask rows) h g ≡ chained xs = quiet-chained (halvesChain (ask rows) h g) (parts .1) in
       let agree : Agree rows h g = quiet-agree rows h g (parts .0) in
       let facts : Facts rows = sound-gives (st .directory) (ready .soundBooks) in
       let small = steps-small rows facts (h .security) (h .account) (g .account) xs (agree .deliverer) (agree .receiver) (agree .two) is in
@@ -113,7 +114,7 @@ module _ (st : Store) (ready : Ready st) (h g : Half) (lent : List Step) where
   settle-brief =
       refused-or (settle h g lent) st
       (λ e. pair-brief (Booked (length xs)) refl
-      (quiet-both (deriveConditions rows h g) (bookConditions rows (st .positions) (st .cash) h g xs) (desk-quiet (settle h g lent) st e .1 .1) .0))
+      (quiet-both (deriveConditions (ask rows) h g) (bookConditions (ask rows) (st .positions) (st .cash) h g xs) (desk-quiet (settle h g lent) st e .1 .1) .0))
 
 -- ---- a command
 

@@ -10,7 +10,7 @@ use native.Mathlib.Omega.{arith}
 use lib.Dec.{eqb, leb}
 use lib.ListN.{length, getElem?}
 use Rattle.rules.specs.declared.Half.{Half}
-use Rattle.rules.specs.Directory.{Row}
+use Rattle.rules.specs.Entries.{Row}
 use Rattle.rules.specs.Booking.{Way, positionCount, cashCount}
 use Rattle.rules.specs.Calls.{Store, Call, enter, move, pay, settle, derive, misfit}
 use Rattle.rules.specs.Stream.{widths, widthOf, callOf, halfAt, programSteps}

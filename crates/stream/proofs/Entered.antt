@@ -12,7 +12,8 @@ use Rattle.rules.specs.declared.WalkEnd.{WalkEnd}
 use Rattle.rules.specs.declared.Join.{Join}
 use Rattle.rules.specs.Tests.{isRow}
 use Rattle.rules.specs.Directory.{Rows, csdLimit, accountLimit, isKind}
-use Rattle.rules.specs.Chain.{chained, turned, lastOf, homeOf, chain}
+use Rattle.rules.specs.Lookups.{homeOf, ask}
+use Rattle.rules.specs.Chain.{chained, turned, lastOf, chain}
 use Rattle.rules.specs.Relations.{Walks, endsOutside, endsInside, endsWithoutLink, goesOn, Directs, arrives, takes, follows, Joins, same, meets, ahead, back, issuers, externals, Tops, oneStep, issuanceSteps, noStep, Climbs, stands, rises, ChainIs}
 use Rattle.rules.proofs.Basics.{ltb-is}
 use Rattle.rules.proofs.Bookings.{touched-debited, touched-credited}
@@ -107,7 +108,7 @@ unfolding isRow
 known-small r F c h = let l : c < length (r .csds) = ltb-is c (length (r .csds)) h in let m : length (r .csds) ≤ csdLimit = F .fewCsds in omega arith
 
 module _ (r : Rows) (F : Facts r) (s a b : ℕ) (steps : List Step) (ka : isKind (r .accounts) a 0 ≡ true) (kb : isKind (r .accounts) b 0 ≡ true) (ne : a ≢ b)
-    (e : chain r s a b ≡ chained steps) where
+    (e : chain (ask r) s a b ≡ chained steps) where
   home-known : (c : ℕ) → isKind (r .accounts) c 0 ≡ true → isRow (r .csds) (homeOf (r .accounts) c) ≡ true
   home-known c k = F .homeRow c (homeOf (r .accounts) c) (at-home (r .accounts) c 0 k)
 

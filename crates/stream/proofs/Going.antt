@@ -7,13 +7,12 @@ use native.Mathlib.Numerals.{add-one}
 use native.Mathlib.Omega.{arith}
 use mathlib.Core.List.{List, [], _∷_, _++_, append-assoc}
 use lib.IntN.{ℤ}
-use lib.ListN.{length, take, drop, replicate, length-append, length-take}
+use lib.ListN.{length, take, drop, replicate, length-append, length-take, length-replicate}
 use lib.Seq.{length-take-le}
 use borrow.Author.Tests.{lt-ltb, le-ltb}
 use Rattle.rules.specs.declared.Account.{Account}
-use Rattle.rules.specs.declared.Directory.{Directory}
 use Rattle.rules.specs.declared.Security.{Security}
-use Rattle.rules.specs.Directory.{rowsOf, securityLimit, emptyDirectory}
+use Rattle.rules.specs.Directory.{rowsOf, securityLimit, isKind}
 use Rattle.rules.specs.Booking.{positionCount, cashCount, participantSum, cashSum}
 use Rattle.rules.specs.Calls.{Store, zeros, emptyStore}
 use Rattle.rules.specs.Stream.{bytes, totalLine, totalLines, cashLine, ending, linesFrom, inputLimit, transcript}
@@ -21,16 +20,19 @@ use Rattle.rules.proofs.Facts.{Facts}
 use Rattle.rules.proofs.Soundness.{sound-gives}
 use Rattle.rules.proofs.Running.{Ready, empty-ready}
 use Rattle.text.specs.Appended.{Appended}
-use Rattle.text.proofs.Appends.{Fitted, fits}
+use Rattle.text.proofs.Appends.{Fitted, fits, named}
 use Rattle.text.proofs.Lengths.{short-total, short-cash}
+use Rattle.index.specs.Index.{indexSize}
+use Rattle.entries.specs.Names.{namesSize}
+use Rattle.entries.proofs.Empty.{keeps-empty}
+use Rattle.chain.specs.StepList.{stepNumbers}
 use Rattle.stream.specs.declared.turns.Turn.{Turn}
-use Rattle.index.specs.Index.{indexSize, Indexed}
-use Rattle.index.specs.Steps.{stepNumbers}
-use Rattle.index.proofs.Empty.{zeros-long, zeros-indexed}
-use Rattle.stream.specs.Obeyed.{store}
+use Rattle.stream.specs.Obeyed.{Held, held, Holds}
 use Rattle.stream.specs.Turns.{Told, told, Takes}
+use Rattle.stream.specs.Ending.{endingIn}
 use Rattle.stream.specs.Printed.{room, Printed}
 use Rattle.stream.proofs.Keeping.{Bounded, empty-bounded}
+use Rattle.stream.proofs.Totals.{ending-is, totalled}
 use Rattle.stream.proofs.Turned.{Turned, turned, lines-end}
 
 -- ---- the end
@@ -39,7 +41,7 @@ totals-short : (acc : List Account) (p : List ℤ) (s : ℕ) (xs : List Security
 unfolding totalLines
 totals-short acc p s [] = omega arith
 totals-short acc p s (x ∷ xs) =
-    omega (arith, short-total (x .isin) (participantSum acc p s), totals-short acc p (suc s) xs, length-append (totalLine (x .isin) (participantSum acc p s)) (totalLines acc p (suc s) xs), mul-suc 41 (length xs))
+    omega (arith, short-total (x .isin) (participantSum (isKind acc) p s), totals-short acc p (suc s) xs, length-append (totalLine (x .isin) (participantSum (isKind acc) p s)) (totalLines acc p (suc s) xs), mul-suc 41 (length xs))
 
 ending-short : (st : Store) → Ready st → length (ending st) ≤ 683
 unfolding ending
@@ -85,11 +87,11 @@ module _ (s before out : List ℕ) (st : Store) (at number end : ℕ) (g : Going
     abbrev here : Told
     here = told s (number + 1) at st
 
-    pub turn : Turned s (number + 1) at st here
+    turn : Turned s (number + 1) at st here
     turn = turned s (number + 1) at st (omega (arith, g .counted)) h (g .ready) (g .bounded)
 
-    goes-on : (after index : List ℕ) (p c : List ℤ) (t : Turn) → Takes here out end after t index p c → Going s before after (here .left) (t .at) (number + 1) (t .end)
-    goes-on after index p c t k =
+    goes-on : (after : List ℕ) (t : Turn) (h′ : Held) → Takes here out end after t h′ → Going s before after (here .left) (t .at) (number + 1) (t .end)
+    goes-on after t h′ k =
         let m = turn in
         let on : t .at ≡ here .at = k .on in
         let text : Fitted out end after (t .end) (here .text) = fits (k .lines) (omega (arith, g .roomy h, g .same, m .fits, m .within)) in
@@ -106,38 +108,12 @@ module _ (s before out : List ℕ) (st : Store) (at number end : ℕ) (g : Going
         }
 
   -- what stands there once the end is told
-  pub all-told : (after : List ℕ) (r : ℕ) → length s ≤ at → Appended out end after r (ending st)
+  all-told : (after : List ℕ) (r : ℕ) → length s ≤ at → Appended out end after r (ending st)
       → (r ≡ length (linesFrom (length s) 1 s emptyStore)) × (take r after ≡ linesFrom (length s) 1 s emptyStore)
   all-told after r h a =
       let text : Fitted out end after r (ending st) = fits a (omega (arith, g .fits, g .inside, g .same, ending-short st (g .ready))) in
       let w : take end out ++ ending st ≡ linesFrom (length s) 1 s emptyStore = rw (lines-end (length s - number) (number + 1) s at st h) at (g .whole) in
       (omega (arith, text .ends, ap length w, length-append (take end out) (ending st), length-take-le end out ends-inside), text .front ∙ w)
-
--- ---- what the code holds in the loop
-
--- the index of a directory, and the lists of the store that it makes up
-pub record Running (s before out index : List ℕ) (p c : List ℤ) (steps : List ℕ) (at number end : ℕ) : Type 0 where
-  pub directory : Directory
-  pub indexed : Indexed index directory
-  pub going : Going s before out (store directory p c) at number end
-  pub long : length steps ≡ stepNumbers
-
-pub running-start : (s out : List ℕ) → Running s out out (replicate indexSize 0) (zeros positionCount) (zeros cashCount) (replicate stepNumbers 0) 0 0 0
-unfolding emptyStore
-running-start s out = record { directory = emptyDirectory; indexed = zeros-indexed; going = going-start s out; long = zeros-long stepNumbers }
-
-module _ (s before out index : List ℕ) (p c : List ℤ) (steps : List ℕ) (at number end : ℕ) (r : Running s before out index p c steps at number end)
-    (short : length s ≤ inputLimit) (large : room ≤ length before) (h : at < length s) where
-  pub runs-on : (after index′ : List ℕ) (p′ c′ : List ℤ) (steps′ : List ℕ) (t : Turn)
-      → Takes (told s (number + 1) at (store (r .directory) p c)) out end after t index′ p′ c′ → length steps′ ≡ length steps
-      → Running s before after index′ p′ c′ steps′ (t .at) (number + 1) (t .end)
-  runs-on after index′ p′ c′ steps′ t k e =
-      record {
-        directory = told s (number + 1) at (store (r .directory) p c) .left .directory;
-        indexed = k .left .indexed;
-        going = rw (k .left .positions, k .left .cash) (goes-on s before out (store (r .directory) p c) at number end (r .going) short large h after index′ p′ c′ t k);
-        long = e ∙ r .long;
-      }
 
 -- ---- what a run prints
 
@@ -147,7 +123,7 @@ module _ (s before after : List ℕ) (r : ℕ) where
       let f : r ≡ length (take r after) = p .0 ∙ sym (ap length (p .1)) in
       record { prints = λ k. p; refuses = λ k. absurd (omega arith); inside = omega (arith, length-take r after); whole = f }
 
-  pub prints-lines : length s ≤ inputLimit → room ≤ length before
+  prints-lines : length s ≤ inputLimit → room ≤ length before
       → (r ≡ length (linesFrom (length s) 1 s emptyStore)) × (take r after ≡ linesFrom (length s) 1 s emptyStore) → Printed (transcript s) before after r
   unfolding transcript
   prints-lines h m p = rw (le-ltb inputLimit (length s) h) (printed (linesFrom (length s) 1 s emptyStore) m p)
@@ -160,3 +136,51 @@ module _ (s before after : List ℕ) (r : ℕ) where
 
 pub refuses-short : (s before : List ℕ) → length before < room → Printed (transcript s) before before 0
 refuses-short s before h = record { prints = λ k. absurd (omega arith); refuses = λ k. (refl, refl); inside = omega arith; whole = refl }
+
+-- ---- what the code holds in the loop
+
+-- it holds a store, on which the stream goes on
+pub record Running (s before out : List ℕ) (h : Held) (at number end : ℕ) : Type 0 where
+  pub store : Store
+  pub holds : Holds h store
+  pub going : Going s before out store at number end
+
+pub running-start : (s out : List ℕ)
+    → Running s out out (held (replicate indexSize 0) (replicate namesSize 0) (zeros positionCount) (zeros cashCount) (replicate stepNumbers 0)) 0 0 0
+unfolding emptyStore
+running-start s out =
+    record {
+      store = emptyStore;
+      holds = record { kept = keeps-empty; positions = refl; cash = refl; long = length-replicate {A = ℕ} stepNumbers 0 };
+      going = going-start s out;
+    }
+
+module _ (s before out : List ℕ) (h : Held) (at number end : ℕ) (r : Running s before out h at number end) where
+  -- as many positions and balances as document 01 has
+  pub positions-long : positionCount ≡ length (h .positions)
+  positions-long = sym (ap length (r .holds .positions) ∙ r .going .ready .positions)
+
+  pub cash-long : cashCount ≡ length (h .cash)
+  cash-long = sym (ap length (r .holds .cash) ∙ r .going .ready .cash)
+
+  module _ (short : length s ≤ inputLimit) (large : room ≤ length before) where
+    module _ (l : at < length s) (after : List ℕ) (t : Turn) (h′ : Held) (k : Takes (told s (number + 1) at (r .store)) out end after t h′) where
+      pub runs-on : Running s before after h′ (t .at) (number + 1) (t .end)
+      runs-on =
+          record {
+            store = told s (number + 1) at (r .store) .left;
+            holds = k .left;
+            going = goes-on s before out (r .store) at number end (r .going) short large l after t h′ k;
+          }
+
+      pub less-left : length s - t .at < length s - at
+      less-left =
+          let m = turn s before out (r .store) at number end (r .going) short large l in
+          omega (arith, m .on, m .within, k .on)
+
+    pub prints-all : length s ≤ at → (after : List ℕ) (n : ℕ) → Appended out end after n (endingIn (h .kept) (h .positions) (h .cash)) → Printed (transcript s) before after n
+    prints-all l after n a =
+        let st = r .store in
+        let g = r .going in
+        prints-lines s before after n short large
+        (all-told s before out st at number end g short large after n l (named (ending-is h st (r .holds) (totalled st (g .ready) (g .bounded))) a))

@@ -12,8 +12,9 @@ use Rattle.rules.specs.declared.Half.{Half}
 use Rattle.rules.specs.declared.Step.{Step}
 use Rattle.rules.specs.Tests.{_when_}
 use Rattle.rules.specs.Directory.{Rows, rowsOf, securityLimit}
-use Rattle.rules.specs.Chain.{stepsOf, chainConditions, homeOf}
-use Rattle.rules.specs.Booking.{Way, beyond, position, balance, heldIn, cashOn, moveStep, moveBy, moveChain, payment, cashBeyond, stepBeyond, unitsBeyond, unitsShort}
+use Rattle.rules.specs.Lookups.{homeOf, ask}
+use Rattle.rules.specs.Chain.{stepsOf, chainConditions}
+use Rattle.rules.specs.Booking.{Way, positionCount, cashCount, beyond, position, balance, heldIn, cashOn, moveStep, moveBy, moveChain, payment, cashBeyond, stepBeyond, unitsBeyond, unitsShort}
 use Rattle.rules.specs.Calls.{Store, Call, enter, move, pay, settle, derive, desk, deskConditions, zeros, emptyStore, isAccepted}
 use Rattle.rules.specs.Demands.{Within, MovedUnits, MovedCents}
 use Rattle.rules.proofs.Basics.{or-none, any-none, Quiet}
@@ -40,7 +41,7 @@ zero-within e = rw e
 
 pub empty-bounded : Bounded emptyStore
 unfolding emptyStore position balance
-empty-bounded = record { units = λ s a h. zero-within (zero-there 4096 _); cents = λ a. zero-within (zero-there 256 a) }
+empty-bounded = record { units = λ s a h. zero-within (zero-there positionCount _); cents = λ a. zero-within (zero-there cashCount a) }
 
 -- ---- one call
 
@@ -104,11 +105,11 @@ module _ (st : Store) (b : Bounded st) where
       let k = demand2 .changes (move w a s q) st e in
       let all : Quiet (deskConditions (move w a s q) st) = desk-quiet (move w a s q) st (accepted-lowest (move w a s q) st e) in
       let x : Step = moveStep w (homeOf (rows .accounts) a) a (k .1 .0) in
-      let one : stepsOf (moveChain rows w a s) ≡ x ∷ [] = ap (λ o. stepsOf (moveBy w (homeOf (rows .accounts) a) a o)) (k .1 .1) in
+      let one : stepsOf (moveChain (ask rows) w a s) ≡ x ∷ [] = ap (λ o. stepsOf (moveBy w (homeOf (rows .accounts) a) a o)) (k .1 .1) in
       let free : unitsBeyond (st .positions) s q (x ∷ []) ≡ false =
       ap (unitsBeyond (st .positions) s q) (sym one)
-      ∙ quiet-both (chainConditions (moveChain rows w a s))
-      (20 when unitsShort (rows .accounts) (st .positions) s q (stepsOf (moveChain rows w a s)) ∷ 22 when unitsBeyond (st .positions) s q (stepsOf (moveChain rows w a s)) ∷ [])
+      ∙ quiet-both (chainConditions (moveChain (ask rows) w a s))
+      (20 when unitsShort (ask rows .kind) (st .positions) s q (stepsOf (moveChain (ask rows) w a s)) ∷ 22 when unitsBeyond (st .positions) s q (stepsOf (moveChain (ask rows) w a s)) ∷ [])
       (all .1 .1 .1 .1 .1) .1 .1 .0 in
       record {
         units = units-kept (x ∷ []) s q (st .positions) _ (k .1 .2) (λ y i. one-beyond (st .positions) s q x y free i .0) (λ y i. one-beyond (st .positions) s q x y free i .1) (b .units);

@@ -1,121 +1,135 @@
--- A call goes by what it is handed alone: what a core answers and leaves on the lists that it is lent, the call answers and leaves on the whole
--- store. The numbers of the steps that a core writes are those that the program's step list shows, and there are at most 16 steps.
+-- A call goes by what it is handed alone: what the code answers and leaves on the lists that it is lent, the call answers and leaves on the whole
+-- store. The numbers of the steps that it writes are those that the program's step list shows.
 use mathlib.Core.Path.{_≡_, refl, sym, ap, _∙_}
-use Prim.Native.Nat.{ℕ, zero, suc, _≤_}
-use native.Mathlib.Omega.{arith}
-use mathlib.Core.List.{List, [], _++_, append-nil}
+use Prim.Native.Nat.{ℕ, zero, suc}
+use mathlib.Core.List.{List, []}
 use lib.IntN.{ℤ}
 use lib.ListN.{length, take, drop}
-use lib.Seq.{take-append-seam, drop-nil}
+use lib.Seq.{take-append-seam}
 use Rattle.rules.specs.declared.Answer.{Answer}
-use Rattle.rules.specs.declared.Directory.{Directory}
+use Rattle.rules.specs.declared.Entered.{Entered}
 use Rattle.rules.specs.declared.Half.{Half}
 use Rattle.rules.specs.declared.Step.{Step}
 use Rattle.rules.specs.Tests.{lowest}
-use Rattle.rules.specs.Directory.{Row, Rows, rowsOf, rowConditions, enteredBy, enterRow}
-use Rattle.rules.specs.Chain.{Chain, chained, unchained, chain, stepsOf, stepLimit}
-use Rattle.rules.specs.Booking.{Way, moveConditions, payConditions}
-use Rattle.rules.specs.Calls.{Store, Call, enter, move, pay, settle, derive, outcome, success, core, chainFor, coreConditions, countOf}
+use Rattle.rules.specs.Directory.{rowsOf}
+use Rattle.rules.specs.Entries.{Row, rowConditions, enteredBy, enterRow}
+use Rattle.rules.specs.Lookups.{ask}
+use Rattle.rules.specs.Booking.{Way}
+use Rattle.rules.specs.Calls.{Store, Call, enter, move, pay, settle, derive, Outcome, outcome, success, core, coreConditions, countOf, written}
 use Rattle.rules.specs.Stream.{programSteps}
-use Rattle.rules.proofs.ChainSize.{chain-few}
-use Rattle.booking.specs.Moves.{lentPositions, lentCash}
-use Rattle.index.specs.Index.{Indexed}
-use Rattle.index.specs.Steps.{stepsIn}
-use Rattle.stream.specs.Obeyed.{store, Obeys, Enters, Moves, Pays}
+use Rattle.index.specs.Asked.{asked}
+use Rattle.index.proofs.Answers.{answers}
+use Rattle.entries.specs.Entered.{Kept, Keeps, refusalIn, withRowIn, answered, left, keptBy, enteredIn}
+use Rattle.entries.proofs.Keeping.{keeps-entered, answer-is}
+use Rattle.chain.specs.StepList.{stepsIn}
+use Rattle.chain.specs.Derivation.{derived, derivedInto, DerivedIn, Derives}
+use Rattle.chain.proofs.StepList.{steps-none, steps-counted}
+use Rattle.chain.proofs.Deriving.{derived-fits, core-derives}
+use Rattle.booking.specs.Moves.{moveOutcome}
+use Rattle.booking.specs.Payments.{payOutcome}
+use Rattle.booking.specs.Settling.{settleOutcome, SettledIn, Settles}
+use Rattle.booking.proofs.Settled.{settle-fits}
+use Rattle.booking.proofs.Calls.{core-moves, core-pays, core-settles}
+use Rattle.stream.specs.Obeyed.{keptIn, Held, held, Holds, Obeys, Does, Enters, Moves, Pays}
+
+-- ---- calls without a chain
+
+no-count : (c : Call) (st : Store) → countOf (success c st) ≡ 0 → countOf (core c st .answer) ≡ 0
+unfolding core
+no-count c st e = go (lowest (coreConditions c st))
+  where
+    go : (n : ℕ) → countOf (outcome n c st .answer) ≡ 0
+    go zero = e
+    go (suc n) = refl
+
+-- they tell no step
+plain-obeys : (c : Call) (st : Store) (a : Answer) (h : Held) → countOf (success c st) ≡ 0 → a ≡ core c st .answer → Holds h (core c st .store) → Obeys (core c st) a h
+plain-obeys c st a h n e i = record { answer = e; steps = rw (no-count c st n) (steps-none (h .steps)); left = i }
 
 -- ---- entries
 
-entered-by : (n : ℕ) (x : Row) (d : Directory) (numbers index : List ℕ) (p c : List ℤ) → Indexed index (enteredBy n x d .directory)
-    → Obeys (outcome n (enter x) (store d p c)) (enteredBy n x d .answer) numbers index p c
-unfolding stepsIn
-entered-by zero x d numbers index p c i = record { answer = refl; steps = refl; left = record { indexed = i; positions = refl; cash = refl } }
-entered-by (suc n) x d numbers index p c i = record { answer = refl; steps = refl; left = record { indexed = i; positions = refl; cash = refl } }
+abbrev enteredOn : Store → Entered → Outcome
+enteredOn st x = record { answer = x .answer; store = record { directory = x .directory; positions = st .positions; cash = st .cash }; steps = [] }
 
-pub entry-obeys : (call : Call) (x : Row) (d : Directory) (a : Answer) (index : List ℕ) → call ≡ enter x → a ≡ enterRow x d .answer
-    → Indexed index (enterRow x d .directory) → Enters call d a index
+enter-called : (x : Row) (st : Store) → core (enter x) st ≡ enteredOn st (enterRow x (st .directory))
 unfolding core enterRow
-entry-obeys call x d a index k e i numbers p c = rw (k, e) (entered-by (lowest (rowConditions (rowsOf d) x)) x d numbers index p c i)
+enter-called x st = go (lowest (rowConditions (rowsOf (st .directory)) x))
+  where
+    go : (n : ℕ) → outcome n (enter x) st ≡ enteredOn st (enteredBy n x (st .directory))
+    go zero = refl
+    go (suc n) = refl
+
+kept-by : (n : ℕ) (x : Row) (k : Kept) → keptIn (left n (k .numbers) (withRowIn x k .numbers)) (left n (k .names) (withRowIn x k .names)) ≡ keptBy n x k
+kept-by zero x k = refl
+kept-by (suc n) x k = refl
+
+module _ (call : Call) (x : Row) (l b : List ℕ) (a : Answer) (is : call ≡ enter x) (answer : a ≡ answered (refusalIn (keptIn l b) x)) (l′ : List ℕ)
+    (numbers : l′ ≡ left (refusalIn (keptIn l b) x) l (withRowIn x (keptIn l b) .numbers)) where
+  pub entry-obeys : (b′ : List ℕ) → b′ ≡ left (refusalIn (keptIn l b) x) b (withRowIn x (keptIn l b) .names) → Enters call (keptIn l b) a (keptIn l′ b′)
+  unfolding enteredIn
+  entry-obeys b′ names p c y st h =
+      let k = keptIn l b in
+      let keeps : Keeps (enteredIn x k) (enterRow x (st .directory) .directory) = keeps-entered k (st .directory) x (h .kept) in
+      let after : keptIn l′ b′ ≡ enteredIn x k = rw (numbers, names) (kept-by (refusalIn k x) x k) in
+      rw (is, after)
+      (plain-obeys (enter x) st a (record { kept = enteredIn x k; positions = p; cash = c; steps = y }) refl
+      (rw (enter-called x st) (answer ∙ answer-is k (st .directory) x (h .kept)))
+      (rw (enter-called x st) (record { kept = keeps; positions = h .positions; cash = h .cash; long = h .long })))
+
+  -- a row without an identifier leaves the names
+  pub row-obeys : withRowIn x (keptIn l b) .names ≡ b → Enters call (keptIn l b) a (keptIn l′ b)
+  row-obeys same = entry-obeys b (go (refusalIn (keptIn l b) x))
+    where
+      go : (n : ℕ) → b ≡ left n b (withRowIn x (keptIn l b) .names)
+      go zero = sym same
+      go (suc n) = refl
 
 -- ---- bring in, take out, pay in, pay out
 
-moved-by : (n : ℕ) (w : Way) (a s q : ℕ) (d : Directory) (p c : List ℤ) (numbers index : List ℕ) → Indexed index d
-    → Obeys (outcome n (move w a s q) (store d p c)) (outcome n (move w a s q) (lentPositions d p) .answer) numbers index (outcome n (move w a s q) (lentPositions d p) .store .positions) c
-unfolding stepsIn
-moved-by zero w a s q d p c numbers index i = record { answer = refl; steps = refl; left = record { indexed = i; positions = refl; cash = refl } }
-moved-by (suc n) w a s q d p c numbers index i = record { answer = refl; steps = refl; left = record { indexed = i; positions = refl; cash = refl } }
+pub move-obeys : (call : Call) (w : Way) (a s q : ℕ) (l : List ℕ) (p p′ : List ℤ) (r : Answer) → call ≡ move w a s q
+    → r ≡ moveOutcome (asked l) p w a s q .answer → p′ ≡ moveOutcome (asked l) p w a s q .positions → Moves call l p r p′
+move-obeys call w a s q l p p′ r k e f b c y st h =
+    let known = answers l (st .directory) (h .kept .indexed) in
+    let called = core-moves st w a s q in
+    rw k (plain-obeys (move w a s q) st r (held l b p′ c y) refl (rw called (rw (known, h .positions) at e))
+    (rw called (record { kept = h .kept; positions = rw (known, h .positions) at f; cash = h .cash; long = h .long })))
 
-pub move-obeys : (call : Call) (w : Way) (a s q : ℕ) (d : Directory) (p left : List ℤ) (x : Answer) → call ≡ move w a s q
-    → x ≡ core (move w a s q) (lentPositions d p) .answer → left ≡ core (move w a s q) (lentPositions d p) .store .positions → Moves call d p x left
-unfolding core
-move-obeys call w a s q d p left x k e f numbers index c i = rw (k, e, f) (moved-by (lowest (moveConditions (rowsOf d) p w a s q)) w a s q d p c numbers index i)
-
-paid-by : (n : ℕ) (w : Way) (a m : ℕ) (d : Directory) (p c : List ℤ) (numbers index : List ℕ) → Indexed index d
-    → Obeys (outcome n (pay w a m) (store d p c)) (outcome n (pay w a m) (lentCash d c) .answer) numbers index p (outcome n (pay w a m) (lentCash d c) .store .cash)
-unfolding stepsIn
-paid-by zero w a m d p c numbers index i = record { answer = refl; steps = refl; left = record { indexed = i; positions = refl; cash = refl } }
-paid-by (suc n) w a m d p c numbers index i = record { answer = refl; steps = refl; left = record { indexed = i; positions = refl; cash = refl } }
-
-pub pay-obeys : (call : Call) (w : Way) (a m : ℕ) (d : Directory) (c left : List ℤ) (x : Answer) → call ≡ pay w a m
-    → x ≡ core (pay w a m) (lentCash d c) .answer → left ≡ core (pay w a m) (lentCash d c) .store .cash → Pays call d c x left
-unfolding core
-pay-obeys call w a m d c left x k e f numbers index p i = rw (k, e, f) (paid-by (lowest (payConditions (rowsOf d) c w a m)) w a m d p c numbers index i)
+pub pay-obeys : (call : Call) (w : Way) (a m : ℕ) (l : List ℕ) (c c′ : List ℤ) (r : Answer) → call ≡ pay w a m
+    → r ≡ payOutcome (asked l) c w a m .answer → c′ ≡ payOutcome (asked l) c w a m .cash → Pays call l c r c′
+pay-obeys call w a m l c c′ r k e f b p y st h =
+    let known = answers l (st .directory) (h .kept .indexed) in
+    let called = core-pays st w a m in
+    rw k (plain-obeys (pay w a m) st r (held l b p c′ y) refl (rw called (rw (known, h .cash) at e))
+    (rw called (record { kept = h .kept; positions = h .positions; cash = rw (known, h .cash) at f; long = h .long })))
 
 -- ---- settlements and derivations
 
--- the first K that are written, to no list and to any other, are the chain
-shown : {shown : List Step} (xs lent : List Step) → shown ≡ xs ++ drop (length xs) [] → shown ≡ take (length xs) (xs ++ drop (length xs) lent)
-shown xs lent e = e ∙ ap (λ (l : List Step). xs ++ l) (drop-nil (length xs)) ∙ append-nil xs ∙ sym (take-append-seam xs (drop (length xs) lent))
+-- the steps that an answer counts are the first of the program's step list
+shown : (m : List ℕ) (n : ℕ) (xs lent : List Step) → stepsIn m n ≡ xs → stepsIn m n ≡ take n (written xs lent)
+shown m n xs lent e =
+    let k : n ≡ length xs = steps-counted m n ∙ ap length e in
+    e ∙ sym (rw k (take-append-seam xs (drop (length xs) lent)))
 
-derived-by : (n : ℕ) (h g : Half) (d : Directory) (r : Answer) (numbers index : List ℕ) (p c : List ℤ) → Indexed index d
-    → r ≡ outcome n (derive h g []) (store d [] []) .answer → stepsIn numbers (countOf r) ≡ outcome n (derive h g []) (store d [] []) .steps
-    → Obeys (outcome n (derive h g programSteps) (store d p c)) r numbers index p c
-unfolding stepsIn
-derived-by zero h g d r numbers index p c i e f =
-    record { answer = e; steps = shown (chainFor (derive h g []) (store d [] [])) programSteps (rw e at f); left = record { indexed = i; positions = refl; cash = refl } }
-derived-by (suc n) h g d r numbers index p c i e f = record { answer = e; steps = refl; left = record { indexed = i; positions = refl; cash = refl } }
+module _ (h g : Half) (n l m : List ℕ) (r : Answer) (same : length m ≡ length l) (b : List ℕ) (p c : List ℤ) where
+  pub derive-obeys : Derives l m (asked n) h g r → Does (derive h g programSteps) (held n b p c l) r (held n b p c m)
+  derive-obeys d st i =
+      let x : DerivedIn l m (derived (ask (rowsOf (st .directory))) h g) r =
+      rw (derived-fits l (asked n) h g (i .long), answers n (st .directory) (i .kept .indexed)) at d in
+      rw (core-derives st h g programSteps)
+      (record {
+        answer = x .answer;
+        steps = rw (x .answer) at (shown m _ _ programSteps (x .steps));
+        left = record { kept = i .kept; positions = i .positions; cash = i .cash; long = same ∙ i .long };
+      })
 
-pub derive-obeys : (h g : Half) (d : Directory) (p c : List ℤ) (r : Answer) (numbers index : List ℕ) → Indexed index d
-    → r ≡ core (derive h g []) (store d [] []) .answer → stepsIn numbers (countOf r) ≡ core (derive h g []) (store d [] []) .steps
-    → Obeys (core (derive h g programSteps) (store d p c)) r numbers index p c
-unfolding core
-derive-obeys h g d p c r numbers index i e f = derived-by (lowest (coreConditions (derive h g []) (store d [] []))) h g d r numbers index p c i e f
-
-settled-by : (n : ℕ) (h g : Half) (st : Store) (r : Answer) (numbers index : List ℕ) → Indexed index (st .directory)
-    → r ≡ outcome n (settle h g []) st .answer → stepsIn numbers (countOf r) ≡ outcome n (settle h g []) st .steps
-    → Obeys (outcome n (settle h g programSteps) st) r numbers index (outcome n (settle h g []) st .store .positions) (outcome n (settle h g []) st .store .cash)
-unfolding stepsIn
-settled-by zero h g st r numbers index i e f =
-    record { answer = e; steps = shown (chainFor (settle h g []) st) programSteps (rw e at f); left = record { indexed = i; positions = refl; cash = refl } }
-settled-by (suc n) h g st r numbers index i e f = record { answer = e; steps = refl; left = record { indexed = i; positions = refl; cash = refl } }
-
-pub settle-obeys : (h g : Half) (d : Directory) (p c left paid : List ℤ) (r : Answer) (numbers index : List ℕ) → Indexed index d
-    → r ≡ core (settle h g []) (store d p c) .answer → stepsIn numbers (countOf r) ≡ core (settle h g []) (store d p c) .steps
-    → left ≡ core (settle h g []) (store d p c) .store .positions → paid ≡ core (settle h g []) (store d p c) .store .cash
-    → Obeys (core (settle h g programSteps) (store d p c)) r numbers index left paid
-unfolding core
-settle-obeys h g d p c left paid r numbers index i e f k m =
-    rw (k, m) (settled-by (lowest (coreConditions (settle h g []) (store d p c))) h g (store d p c) r numbers index i e f)
-
--- ---- at most 16 steps
-
-chain-short : (r : Rows) (s a b : ℕ) → length (stepsOf (chain r s a b)) ≤ stepLimit
-chain-short r s a b = go (chain r s a b) refl
-  where
-    go : (x : Chain) → chain r s a b ≡ x → length (stepsOf x) ≤ stepLimit
-    go (chained xs) e = chain-few r s a b xs e
-    go (unchained n) e = omega arith
-
-success-short : (c : Call) (st : Store) → countOf (success c st) ≤ stepLimit
-success-short (enter x) st = omega arith
-success-short (move w a s q) st = omega arith
-success-short (pay w a m) st = omega arith
-success-short (settle h g lent) st = chain-short (rowsOf (st .directory)) (h .security) (h .account) (g .account)
-success-short (derive h g lent) st = chain-short (rowsOf (st .directory)) (h .security) (h .account) (g .account)
-
-pub few-steps : (c : Call) (st : Store) → countOf (core c st .answer) ≤ stepLimit
-unfolding core
-few-steps c st = go (lowest (coreConditions c st))
-  where
-    go : (n : ℕ) → countOf (outcome n c st .answer) ≤ stepLimit
-    go zero = success-short c st
-    go (suc n) = omega arith
+  pub settle-obeys : (p′ c′ : List ℤ) → Settles l m (asked n) p c h g r p′ c′ → Does (settle h g programSteps) (held n b p c l) r (held n b p′ c′ m)
+  settle-obeys p′ c′ s st i =
+      let k = ask (rowsOf (st .directory)) in
+      let x : SettledIn l m (derivedInto l k h g .steps) (settleOutcome k (st .positions) (st .cash) h g) r p′ c′ =
+      rw (settle-fits l (asked n) p c h g (i .long), answers n (st .directory) (i .kept .indexed), i .positions, i .cash) at s in
+      rw (core-settles st h g programSteps)
+      (record {
+        answer = x .answer;
+        steps = rw (x .answer) at (shown m _ _ programSteps (x .steps));
+        left = record { kept = i .kept; positions = x .positions; cash = x .cash; long = same ∙ i .long };
+      })

@@ -3,7 +3,6 @@
 use mathlib.Core.Path.{_≡_}
 use Prim.Native.Nat.{ℕ, _-_}
 use mathlib.Core.List.{List, []}
-use lib.IntN.{ℤ}
 use lib.ListN.{length, take, drop}
 use Rattle.rules.specs.declared.Answer.the-variants.{Refused}
 use Rattle.rules.specs.Calls.{Store, Outcome, core}
@@ -12,7 +11,7 @@ use Rattle.text.specs.Appended.{Appended}
 use Rattle.wire.specs.Commands.{nextAt}
 use Rattle.wire.specs.declared.commands.Next.{Next}
 use Rattle.wire.specs.declared.commands.Next.the-variants.{End, Unknown, Cut, Command}
-use Rattle.stream.specs.Obeyed.{Holds}
+use Rattle.stream.specs.Obeyed.{Held, Holds}
 use Rattle.stream.specs.declared.turns.Turn.{Turn}
 
 -- What one command prints, the place of the next, and the store after it.
@@ -41,7 +40,7 @@ unfoldable pub told : List ℕ → ℕ → ℕ → Store → Told
 told input n at st = toldBy input n at st (nextAt input at)
 
 -- The code has taken the turn: the lines stand behind the text before, and the place and the store are the next command's.
-pub record Takes (t : Told) (before : List ℕ) (end : ℕ) (after : List ℕ) (r : Turn) (index : List ℕ) (positions cash : List ℤ) : Type 0 where
+pub record Takes (t : Told) (before : List ℕ) (end : ℕ) (after : List ℕ) (r : Turn) (h : Held) : Type 0 where
   pub lines : Appended before end after (r .end) (t .text)
   pub on : r .at ≡ t .at
-  pub left : Holds index positions cash (t .left)
+  pub left : Holds h (t .left)

@@ -1,15 +1,17 @@
 // A whole command stream into its whole text, as document 01's "Commands and program" has it. A stream's store starts empty and is changed by calls
-// alone, so that its directory is sound, and no number of it is beyond ±10^15. Of the directory only its index is kept.
-use booking::indexed::totals::security_total;
+// alone, so that its directory is sound, and no number of it is beyond ±10^15. Of the directory its index and its identifiers are kept.
 use booking::totals::cash_total;
-use index::lookups::isin_of;
+use booking::totals::security_total;
+use chain::step_list::STEP_NUMBERS;
+use entries::names::NAMES;
+use entries::names::isin_of;
 use index::places::INDEX;
 use index::places::SECURITY_COUNT;
 use index::places::entry;
-use index::steps::STEP_NUMBERS;
 use rules::ACCOUNTS;
 use rules::CashTotal;
 use rules::Cents;
+use rules::POSITIONS;
 use rules::SECURITIES;
 use rules::SecurityTotal;
 use rules::Units;
@@ -18,16 +20,12 @@ use text::lines::put_total;
 use text::pieces::put_word;
 use turns::take_turn;
 ghost use mathlib.Core.Path.{_≡_};
-ghost use Prim.Native.Nat.{ℕ, _≤_, _<_};
-ghost use lib.ListN.{length};
-ghost use Rattle.rules.specs.declared.Directory.{Directory};
-ghost use Rattle.rules.specs.Directory.{accountRows, securityRows};
-ghost use Rattle.rules.specs.Booking.{participantSum, cashSum};
-ghost use Rattle.rules.specs.Stream.{totalLines, ending, transcript};
-ghost use Rattle.index.specs.Index.{Indexed};
+ghost use Rattle.rules.specs.Booking.{securityTotal, cashTotal};
+ghost use Rattle.rules.specs.Stream.{transcript};
+ghost use Rattle.index.specs.Asked.{asked};
 ghost use Rattle.text.specs.Appended.{Appended};
-ghost use Rattle.stream.specs.Obeyed.{store};
-ghost use Rattle.stream.specs.Ending.{UnitsTotalled, CentsTotalled, Totalled};
+ghost use Rattle.stream.specs.Obeyed.{keptIn};
+ghost use Rattle.stream.specs.Ending.{unitsIn, centsIn, totalsIn, securitiesIn, endingIn};
 ghost use Rattle.stream.specs.Printed.{Printed};
 
 pub mod commands; // commands.rt: one command's operands decoded, and its call made
@@ -39,12 +37,9 @@ pub const INPUT: usize = 65_536;
 // Bytes that hold any transcript: at most 6 for a byte of input, a stop and the end (proofs/Going).
 pub const ROOM: usize = 400_000;
 
-// Positions of a store: "at account × 16 + security".
-const POSITIONS: usize = ACCOUNTS * SECURITIES;
-
-// "sum of participant positions", where it is not refused.
-fn units_of(index: &[u16], positions: &[i64], security: u8) -> Units
-    ensures { λ r. ⌜ ((d : Directory) → Indexed (now (index .entry)) d → UnitsTotalled d (now (positions .entry)) security → r ≡ participantSum (accountRows (d .accounts)) (now (positions .entry)) security) ⌝ }
+// "sum of participant positions", 0 where it is refused.
+fn units_of(index: &[u16; INDEX], positions: &[i64], security: u8) -> Units
+    ensures { λ r. ⌜ r ≡ unitsIn (securityTotal (asked (now (index .entry))) (now (positions .entry)) security) ⌝ }
 {
     match security_total(index, positions, security) {
         SecurityTotal::SumUnits(sum) => sum,
@@ -52,9 +47,9 @@ fn units_of(index: &[u16], positions: &[i64], security: u8) -> Units
     }
 }
 
+// The sum of cash, 0 where it is refused.
 fn cents_of(cash: &[i64]) -> Cents
-    requires { ⌜ CentsTotalled (now cash) ⌝ }
-    ensures { λ r. ⌜ r ≡ cashSum (now (cash .entry)) ⌝ }
+    ensures { λ r. ⌜ r ≡ centsIn (cashTotal (now (cash .entry))) ⌝ }
 {
     match cash_total(cash) {
         CashTotal::SumCents(sum) => sum,
@@ -63,8 +58,15 @@ fn cents_of(cash: &[i64]) -> Cents
 }
 
 // "per security `total`, ISIN, sum of participant positions"
-fn put_totals(out: &mut [u8], at: usize, index: &[u16], positions: &[i64]) -> usize
-    ensures { λ r. ⌜ ((d : Directory) → Indexed (now (index .entry)) d → ((s : ℕ) → s < length (securityRows (d .securities)) → UnitsTotalled d (now (positions .entry)) s) → Appended (now (out .entry)) at (now (out .exit)) r (totalLines (accountRows (d .accounts)) (now (positions .entry)) 0 (securityRows (d .securities)))) ⌝ }
+fn put_totals(
+    out: &mut [u8],
+    at: usize,
+    index: &[u16; INDEX],
+    names: &[u8; NAMES],
+    positions: &[i64],
+) -> usize
+    ensures { λ r. ⌜ Appended (now (out .entry)) at (now (out .exit)) r
+        (totalsIn (keptIn (now (index .entry)) (now (names .entry))) (now (positions .entry)) (securitiesIn (now (index .entry)))) ⌝ }
 {
     let count = entry(index, SECURITY_COUNT) as usize;
     let mut end = put_word(out, at, b"");
@@ -74,7 +76,7 @@ fn put_totals(out: &mut [u8], at: usize, index: &[u16], positions: &[i64]) -> us
             return end;
         }
         let security = i as u8;
-        let isin = isin_of(index, security);
+        let isin = isin_of(names, security);
         let sum = units_of(index, positions, security);
         end = put_total(out, end, isin, sum);
         i += 1;
@@ -83,11 +85,18 @@ fn put_totals(out: &mut [u8], at: usize, index: &[u16], positions: &[i64]) -> us
 }
 
 // What stands "At the end".
-fn put_ending(out: &mut [u8], at: usize, index: &[u16], positions: &[i64], cash: &[i64]) -> usize
-    requires { ⌜ CentsTotalled (now cash) ⌝ }
-    ensures { λ r. ⌜ ((d : Directory) → Indexed (now (index .entry)) d → Totalled (store d (now (positions .entry)) (now (cash .entry))) → Appended (now (out .entry)) at (now (out .exit)) r (ending (store d (now (positions .entry)) (now (cash .entry))))) ⌝ }
+fn put_ending(
+    out: &mut [u8],
+    at: usize,
+    index: &[u16; INDEX],
+    names: &[u8; NAMES],
+    positions: &[i64],
+    cash: &[i64],
+) -> usize
+    ensures { λ r. ⌜ Appended (now (out .entry)) at (now (out .exit)) r
+        (endingIn (keptIn (now (index .entry)) (now (names .entry))) (now (positions .entry)) (now (cash .entry))) ⌝ }
 {
-    let totals = put_totals(out, at, index, positions);
+    let totals = put_totals(out, at, index, names, positions);
     put_cash(out, totals, cents_of(cash))
 }
 
@@ -103,6 +112,7 @@ pub fn run(input: &[u8], output: &mut [u8]) -> usize
         return put_word(output, 0, b"too long\n");
     }
     let mut index = [0u16; INDEX];
+    let mut names = [0u8; NAMES];
     let mut positions = [0i64; POSITIONS];
     let mut cash = [0i64; ACCOUNTS];
     let mut steps = [0u16; STEP_NUMBERS];
@@ -116,6 +126,7 @@ pub fn run(input: &[u8], output: &mut [u8]) -> usize
             at,
             number,
             &mut index,
+            &mut names,
             &mut positions,
             &mut cash,
             &mut steps,
@@ -125,5 +136,5 @@ pub fn run(input: &[u8], output: &mut [u8]) -> usize
         at = turn.at;
         end = turn.end;
     }
-    put_ending(output, end, &index, &positions, &cash)
+    put_ending(output, end, &index, &names, &positions, &cash)
 }

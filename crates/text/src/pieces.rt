@@ -1,8 +1,8 @@
 // Words and numbers.
+use amounts::magnitude;
 ghost use mathlib.Core.Path.{_≡_};
 ghost use Prim.Native.Nat.{min, _+_, _/_, _%_, _<_};
 ghost use mathlib.Core.List.{_∷_, [], _++_};
-ghost use lib.IntN.{natAbs};
 ghost use Rattle.rules.specs.Stream.{digits, decimal, signed};
 ghost use Rattle.text.specs.Appended.{Appended};
 
@@ -100,17 +100,6 @@ pub fn put_counted(out: &mut [u8], at: usize, word: &[u8], n: u64) -> usize
 {
     let behind = put_word(out, at, word);
     put_decimal(out, behind, n)
-}
-
-// The number's distance from 0, for the smallest number too.
-fn magnitude(v: i64) -> u64
-    ensures { λ r. ⌜ r ≡ natAbs v ⌝ }
-{
-    if v < 0 {
-        ((0 - (v + 1)) as u64) + 1
-    } else {
-        v as u64
-    }
 }
 
 pub fn put_signed(out: &mut [u8], at: usize, v: i64) -> usize

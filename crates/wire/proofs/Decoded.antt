@@ -6,7 +6,7 @@ use native.Mathlib.Omega.{arith}
 use mathlib.Core.List.{List}
 use mathlib.Core.Option.{Option, none, some}
 use lib.ListN.{length}
-use Rattle.rules.specs.Directory.{csdRow, securityRow}
+use Rattle.rules.specs.Entries.{csdRow, securityRow}
 use Rattle.rules.specs.Booking.{incoming, outgoing}
 use Rattle.rules.specs.Calls.{enter, move, pay, settle, derive}
 use Rattle.rules.specs.Stream.{widths, widthOf, callOf, csdAt, securityAt, accountAt, pairAt, linkAt, halfAt, programSteps}

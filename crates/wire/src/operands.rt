@@ -9,7 +9,7 @@ use rules::Security;
 ghost use mathlib.Core.Path.{_≡_};
 ghost use Prim.Native.Nat.{_+_, _^_, _≤_, _<_};
 ghost use lib.ListN.{length, getD};
-ghost use Rattle.rules.specs.Directory.{accountRow, pairRow, linkRow};
+ghost use Rattle.rules.specs.Entries.{accountRow, pairRow, linkRow};
 ghost use Rattle.rules.specs.Stream.{numberAt, accountAt, pairAt, linkAt, halfAt};
 ghost use Rattle.wire.specs.Operands.{paddedAt, csdIn, securityIn, moveIn, paymentIn};
 

@@ -1,34 +1,46 @@
--- 3 and 4 first; else the core's reply.
+-- 3 and 4 first; else the stream's derivation, its steps laid out.
 use borrow.Author.Needs.{needs}
 use mathlib.Core.Path.{_∙_}
-use Rattle.desk.proofs.Decided.{derivation-refused, derivation-passed}
+use Rattle.desk.proofs.Admitted.{nothing-kept}
+use Rattle.desk.proofs.Decided.{derivation-refused, derivation-few, derivation-passed}
 use Rattle.desk.proofs.derive_reply.Statement.{statement}
 use Rattle.desk.proofs.derive_reply.Tie as tie
 
 early-refusal-requires : tie.Need-early-refusal-requires
-early-refusal-requires c κs = search needs
+early-refusal-requires c κs = nothing-kept
 
 refused-requires : tie.Need-refused-requires
 refused-requires c κs = search needs
 
 returns : tie.Need-returns
 returns c =
-    let l = c .before in
-    let a = l .before .before .args in
-    c .refused .ensures ∙ derivation-refused (a .directory) (a .lent) (a .delivering) (a .receiving) _ (l .before .early-refusal .ensures) (l .if1 .taken)
+    let e = c .before in
+    let a = e .before .before .before .before .args in
+    c .refused .ensures ∙ derivation-refused (a .directory) (a .lent) (a .delivering) (a .receiving) _ _ (e .before .early-refusal .ensures) (e .if1 .taken)
 
-derive-core-requires : tie.Need-derive-core-requires
-derive-core-requires c κs = search needs
+slice-aggregate-derive : tie.Need-slice-aggregate-derive
+slice-aggregate-derive c = search needs
+
+derive-requires : tie.Need-derive-requires
+derive-requires c κs = search needs
+
+slice-aggregate-replied : tie.Need-slice-aggregate-replied
+slice-aggregate-replied c = search needs
 
 replied-requires : tie.Need-replied-requires
-replied-requires c κs = search needs
+replied-requires c κs =
+    let m = c .before .before in
+    let e = m .before .before .before in
+    let a = e .before .before .before .before .args in
+    derivation-few (a .directory) (a .lent) (a .delivering) (a .receiving) _ _ (e .before .early-refusal .ensures) (e .if1 .left) _ _ (m .derive .ensures)
 
 returns-2 : tie.Need-returns-2
 returns-2 c =
-    let k = c .before .derive-core in
-    let l = c .before .before in
-    let a = l .before .before .args in
-    c .replied .ensures ∙ derivation-passed (a .directory) (a .lent) (a .delivering) (a .receiving) _ (l .before .early-refusal .ensures) (l .if1 .left) (k .result) (k .ensures .0) (k .ensures .1 .0)
+    let m = c .before .before .before in
+    let e = m .before .before .before in
+    let a = e .before .before .before .before .args in
+    c .replied .ensures
+    ∙ derivation-passed (a .directory) (a .lent) (a .delivering) (a .receiving) _ _ (e .before .early-refusal .ensures) (e .if1 .left) _ _ (m .derive .ensures)
 
 pub derive-reply-spec : {M : Type 1} → statement M
 derive-reply-spec =
@@ -37,6 +49,8 @@ derive-reply-spec =
     early-refusal-requires
     refused-requires
     returns
-    derive-core-requires
+    slice-aggregate-derive
+    derive-requires
+    slice-aggregate-replied
     replied-requires
     returns-2)

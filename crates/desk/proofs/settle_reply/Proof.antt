@@ -1,29 +1,40 @@
--- 3 and 4 first; else the core's reply.
+-- 3 and 4 first; else the stream's settlement, its steps laid out.
 use borrow.Author.Needs.{needs}
 use mathlib.Core.Path.{_∙_}
 use denote.Ref.{now}
-use Rattle.desk.proofs.Decided.{settlement-refused, settlement-passed}
+use Rattle.desk.proofs.Admitted.{nothing-kept}
+use Rattle.desk.proofs.Decided.{settlement-refused, settlement-few, settlement-passed}
 use Rattle.desk.proofs.settle_reply.Statement.{statement}
 use Rattle.desk.proofs.settle_reply.Tie as tie
 
 early-refusal-requires : tie.Need-early-refusal-requires
-early-refusal-requires c κs = search needs
+early-refusal-requires c κs = nothing-kept
 
 refused-requires : tie.Need-refused-requires
 refused-requires c κs = search needs
 
 returns : tie.Need-returns
 returns c =
-    let l = c .before in
-    let a = l .before .before .args in
-    let s = settlement-refused (a .directory) (now (a .positions)) (now (a .cash)) (a .lent) (a .delivering) (a .receiving) _ (l .before .early-refusal .ensures) (l .if1 .taken) in
+    let e = c .before in
+    let a = e .before .before .before .before .args in
+    let s = settlement-refused (a .directory) (now (a .positions)) (now (a .cash)) (a .lent) (a .delivering) (a .receiving) _ _ (e .before .early-refusal .ensures) (e .if1 .taken) in
     (c .refused .ensures ∙ s .0, s .1, s .2)
 
-settle-core-requires : tie.Need-settle-core-requires
-settle-core-requires c κs = search needs
+slice-aggregate-settle : tie.Need-slice-aggregate-settle
+slice-aggregate-settle c = search needs
+
+settle-requires : tie.Need-settle-requires
+settle-requires c κs = search needs
+
+slice-aggregate-replied : tie.Need-slice-aggregate-replied
+slice-aggregate-replied c = search needs
 
 replied-requires : tie.Need-replied-requires
-replied-requires c κs = search needs
+replied-requires c κs =
+    let m = c .before .before .before .before in
+    let e = m .before .before .before .before .before in
+    let a = e .before .before .before .before .args in
+    settlement-few (a .directory) (now (a .positions)) (now (a .cash)) (a .lent) (a .delivering) (a .receiving) _ _ (e .before .early-refusal .ensures) (e .if1 .left) _ _ _ _ (m .settle .ensures)
 
 same-length : tie.Need-same-length
 same-length c = search needs
@@ -33,11 +44,10 @@ same-length-2 c = search needs
 
 returns-2 : tie.Need-returns-2
 returns-2 c =
-    let core = c .before .before .before in
-    let k = core .settle-core in
-    let l = core .before .before .before in
-    let a = l .before .before .args in
-    let s = settlement-passed (a .directory) (now (a .positions)) (now (a .cash)) (a .lent) (a .delivering) (a .receiving) _ (l .before .early-refusal .ensures) (l .if1 .left) (k .result) _ _ (k .ensures .0) (k .ensures .1 .0) (k .ensures .1 .1 .0) (k .ensures .1 .1 .1) in
+    let m = c .before .before .before .before .before in
+    let e = m .before .before .before .before .before in
+    let a = e .before .before .before .before .args in
+    let s = settlement-passed (a .directory) (now (a .positions)) (now (a .cash)) (a .lent) (a .delivering) (a .receiving) _ _ (e .before .early-refusal .ensures) (e .if1 .left) _ _ _ _ (m .settle .ensures) in
     (c .replied .ensures ∙ s .0, s .1, s .2)
 
 pub settle-reply-spec : {M : Type 1} → statement M
@@ -47,7 +57,9 @@ settle-reply-spec =
     early-refusal-requires
     refused-requires
     returns
-    settle-core-requires
+    slice-aggregate-settle
+    settle-requires
+    slice-aggregate-replied
     replied-requires
     same-length
     same-length-2

@@ -1,7 +1,7 @@
--- `stream::cents_of` meets its contract: the total is not refused. Assumes nothing.
-use mathlib.Core.Path.{_∙_}
-use Rattle.stream.proofs.Totals.{cents-are, cents-there}
+-- `stream::cents_of` meets its contract: the total's sum. Assumes nothing.
+use mathlib.Core.Path.{sym, ap, _∙_}
 use borrow.Author.Needs.{needs}
+use Rattle.stream.specs.Ending.{centsIn}
 use Rattle.stream.proofs.cents_of.Statement.{statement}
 use Rattle.stream.proofs.cents_of.Tie as tie
 
@@ -15,14 +15,12 @@ enum-told : tie.Need-enum-told
 enum-told c = search needs
 
 returns : tie.Need-returns
-returns c =
-    let s = c .before .before .before .before in
-    cents-are (c .before .sum .given .1) (c .before .before .before .cash-total .ensures ∙ s .pre)
+unfolding centsIn
+returns c = sym (ap centsIn (sym (c .before .before .before .cash-total .ensures) ∙ c .before .sum .given .1))
 
 returns-2 : tie.Need-returns-2
-returns-2 c =
-    let s = c .before .before .before in
-    cents-there (c .enum-told .given .1) (c .before .before .cash-total .ensures ∙ s .pre)
+unfolding centsIn
+returns-2 c = sym (ap centsIn (sym (c .before .before .cash-total .ensures) ∙ c .enum-told .given .1))
 
 pub cents-of-spec : {M : Type 1} → statement M
 cents-of-spec = tie.close (tie.spec cash-total-requires enum-known-sum enum-told returns returns-2)

@@ -1,10 +1,9 @@
 -- `stream::put_ending` meets its contract: the totals, then the cash. Assumes nothing.
 use mathlib.Core.Path.{ap}
-use native.Mathlib.Omega.{arith}
-use lib.ListN.{length-take}
-use Rattle.rules.specs.Stream.{cashLine, ending}
+use Rattle.rules.specs.Stream.{cashLine}
 use Rattle.text.proofs.Appends.{then, named}
 use borrow.Author.Needs.{needs}
+use Rattle.stream.specs.Ending.{endingIn}
 use Rattle.stream.proofs.put_ending.Statement.{statement}
 use Rattle.stream.proofs.put_ending.Tie as tie
 
@@ -21,10 +20,9 @@ same-length : tie.Need-same-length
 same-length c = search needs
 
 returns : tie.Need-returns
-unfolding ending
-returns c = λ d x t.
-    then (c .before .before .before .before .before .before .before .put-totals .ensures d x (λ s l. t .units s (omega (arith, length-take (d .securities .count) (d .securities .rows)))))
-    (named (ap cashLine (c .before .before .before .cents-of .ensures)) (c .before .before .put-cash .ensures))
+unfolding endingIn
+returns c =
+    then (c .before .before .before .before .before .before .before .put-totals .ensures) (named (ap cashLine (c .before .before .before .cents-of .ensures)) (c .before .before .put-cash .ensures))
 
 pub put-ending-spec : {M : Type 1} → statement M
 put-ending-spec =

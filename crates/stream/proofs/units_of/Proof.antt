@@ -1,7 +1,7 @@
--- `stream::units_of` meets its contract: the total is not refused. Assumes nothing.
-use mathlib.Core.Path.{_∙_}
-use Rattle.stream.proofs.Totals.{units-are, units-there}
+-- `stream::units_of` meets its contract: the total's sum. Assumes nothing.
+use mathlib.Core.Path.{sym, ap, _∙_}
 use borrow.Author.Needs.{needs}
+use Rattle.stream.specs.Ending.{unitsIn}
 use Rattle.stream.proofs.units_of.Statement.{statement}
 use Rattle.stream.proofs.units_of.Tie as tie
 
@@ -15,11 +15,12 @@ enum-told : tie.Need-enum-told
 enum-told c = search needs
 
 returns : tie.Need-returns
-returns c = λ d x u. units-are (c .before .sum .given .1) (c .before .before .before .security-total .ensures d x ∙ u)
+unfolding unitsIn
+returns c = sym (ap unitsIn (sym (c .before .before .before .security-total .ensures) ∙ c .before .sum .given .1))
 
 returns-2 : tie.Need-returns-2
-returns-2 c = λ d x u. units-there (c .enum-told .given .1) (c .before .before .security-total .ensures d x ∙ u)
+unfolding unitsIn
+returns-2 c = sym (ap unitsIn (sym (c .before .before .security-total .ensures) ∙ c .enum-told .given .1))
 
 pub units-of-spec : {M : Type 1} → statement M
-units-of-spec =
-    tie.close (tie.spec security-total-requires enum-known-sum enum-told returns returns-2)
+units-of-spec = tie.close (tie.spec security-total-requires enum-known-sum enum-told returns returns-2)

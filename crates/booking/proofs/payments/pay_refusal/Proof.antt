@@ -30,7 +30,14 @@ returns c =
     let short = beyond .before in
     let kind = short .before in
     let range = kind .before in
-    simp (c .before .book-refusal .ensures, beyond .pay-beyond .ensures, short .pay-short .ensures, kind .is-kind .ensures, range .out-of-range .ensures, range .before .is-account .ensures)
+    simp (
+      c .before .book-refusal .ensures,
+      beyond .pay-beyond .ensures,
+      short .pay-short .ensures,
+      kind .is-kind .ensures,
+      range .out-of-range .ensures,
+      range .before .is-account .ensures,
+    )
     at (c .call-refusal .ensures)
 
 pub pay-refusal-spec : {M : Type 1} → statement M

@@ -1,5 +1,4 @@
 -- A position is what is read at its place.
-use borrow.Author.Needs.{needs}
 use borrow.Author.Needs.{needs, sfits-of}
 use mir.Facts.{toZ-ofZ}
 use mir.Syntax.{w64}

@@ -49,7 +49,10 @@ returns : tie.Need-returns Inv-loop μ-loop
 returns c =
     let l = c .before .before .before .before .before in
     let a = l .before .args in
-    cash-refused (a .cash .now) (beyond-at everyAccount (cashOn (a .cash .now)) cashCount (l .loop .account) (omega arith) (ap beyond (sym (ap (λ x. x .0) (c .before .before .before .balance-of .ensures))) ∙ sym (tested (c .before)) ∙ c .if1 .taken))
+    let held = ap (λ x. x .0) (c .before .before .before .balance-of .ensures) in
+    cash-refused (a .cash .now)
+    (beyond-at everyAccount (cashOn (a .cash .now)) cashCount (l .loop .account) (omega arith)
+    (ap beyond (sym held) ∙ sym (tested (c .before)) ∙ c .if1 .taken))
 
 plus-cents-requires : tie.Need-plus-cents-requires Inv-loop μ-loop
 plus-cents-requires c κs =

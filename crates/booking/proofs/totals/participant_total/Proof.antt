@@ -2,28 +2,30 @@
 use mathlib.Core.Path.{_≡_, sym, ap, _∙_}
 use Prim.Native.Nat.{_≤_, _-_, _+_}
 use native.Mathlib.Omega.{arith}
-use lib.IntN.{ℤ, _+ℤ_}
+use lib.IntN.{_+ℤ_}
 use borrow.Author.Needs.{needs, sfits-of}
 use mir.Facts.{toZ-ofZ}
 use mir.Syntax.{w64}
 use mir.Val.{SFits}
-use Rattle.rules.specs.Directory.{accountRows, accountLimit}
+use Rattle.rules.specs.Directory.{accountLimit}
 use Rattle.rules.specs.Booking.{beyond, participants, heldIn}
+use Rattle.index.specs.Asked.{asked}
 use Rattle.booking.proofs.Bounds.{within-fits}
 use Rattle.booking.proofs.Summed.{Summed, summed-none, summed-next, beyond-at, units-refused, units-summed}
 use Rattle.booking.proofs.totals.participant_total.Statement.{statement}
 use Rattle.booking.proofs.totals.participant_total.Tie as tie
 
 abbrev Inv-loop : tie.InvT-loop
-Inv-loop accounts positions security sum₀ account₀ sum account = (account ≤ accountLimit) × Summed (participants (accountRows accounts)) (heldIn positions security) account (sum .0)
+Inv-loop index positions security sum₀ account₀ sum account =
+    (account ≤ accountLimit) × Summed (participants (asked index .kind)) (heldIn positions security) account (sum .0)
 
 abbrev μ-loop : tie.MeasureT-loop
-μ-loop accounts positions security sum₀ account₀ sum account = accountLimit - account
+μ-loop index positions security sum₀ account₀ sum account = accountLimit - account
 
 loop-holds : tie.Need-loop-holds Inv-loop μ-loop
 loop-holds c =
     let a = c .args in
-    (search needs, summed-none (participants (accountRows (a .accounts))) (heldIn (a .positions .now) (a .security)))
+    (search needs, summed-none (participants (asked (a .index .now) .kind)) (heldIn (a .positions .now) (a .security)))
 
 counted-requires : tie.Need-counted-requires Inv-loop μ-loop
 counted-requires c κs = search needs
@@ -39,18 +41,23 @@ tested c =
 
 -- the sum with one account more
 next : (c : tie.Else1 Inv-loop μ-loop) → let l = c .before .before .before .before .before in let a = l .before .args in
-    Summed (participants (accountRows (a .accounts))) (heldIn (a .positions .now) (a .security)) (l .loop .account + 1) (l .loop .sum .0 +ℤ c .before .before .before .counted .result .0)
+    Summed (participants (asked (a .index .now) .kind)) (heldIn (a .positions .now) (a .security)) (l .loop .account + 1)
+    (l .loop .sum .0 +ℤ c .before .before .before .counted .result .0)
 next c =
     let l = c .before .before .before .before .before in
     let a = l .before .args in
-    summed-next (participants (accountRows (a .accounts))) (heldIn (a .positions .now) (a .security)) (l .loop .account) (l .loop .sum .0) (c .before .before .before .counted .result .0) (l .loop .inv .1)
-    (c .before .before .before .counted .ensures) (sym (tested (c .before)) ∙ c .if1 .left)
+    let counted = c .before .before .before .counted in
+    summed-next (participants (asked (a .index .now) .kind)) (heldIn (a .positions .now) (a .security)) (l .loop .account) (l .loop .sum .0)
+    (counted .result .0) (l .loop .inv .1) (counted .ensures) (sym (tested (c .before)) ∙ c .if1 .left)
 
 returns : tie.Need-returns Inv-loop μ-loop
 returns c =
     let l = c .before .before .before .before .before in
     let a = l .before .args in
-    units-refused (accountRows (a .accounts)) (a .positions .now) (a .security) (beyond-at (participants (accountRows (a .accounts))) (heldIn (a .positions .now) (a .security)) accountLimit (l .loop .account) (omega arith) (ap beyond (sym (c .before .before .before .counted .ensures)) ∙ sym (tested (c .before)) ∙ c .if1 .taken))
+    let kind = asked (a .index .now) .kind in
+    units-refused kind (a .positions .now) (a .security)
+    (beyond-at (participants kind) (heldIn (a .positions .now) (a .security)) accountLimit (l .loop .account) (omega arith)
+    (ap beyond (sym (c .before .before .before .counted .ensures)) ∙ sym (tested (c .before)) ∙ c .if1 .taken))
 
 plus-units-requires : tie.Need-plus-units-requires Inv-loop μ-loop
 plus-units-requires c κs =
@@ -71,7 +78,7 @@ returns-2 c =
     let l = c .before in
     let a = l .before .args in
     let all : l .loop .account ≡ accountLimit = omega arith in
-    units-summed (accountRows (a .accounts)) (a .positions .now) (a .security) (l .loop .sum) (rw all at (l .loop .inv .1))
+    units-summed (asked (a .index .now) .kind) (a .positions .now) (a .security) (l .loop .sum) (rw all at (l .loop .inv .1))
 
 pub participant-total-spec : {M : Type 1} → statement M
 participant-total-spec =

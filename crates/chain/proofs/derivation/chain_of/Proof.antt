@@ -1,12 +1,17 @@
 -- The accounts' CSDs, the route between them, and the steps along it.
-use mathlib.Core.Path.{_≡_, ap, _∙_}
-use lib.ListN.{length}
-use Rattle.rules.specs.Chain.{chain}
-use Rattle.directory.proofs.Laws.{length-mapped}
-use Rattle.chain.proofs.Deriving.{counted}
+use native.Mathlib.Omega.{arith}
 use borrow.Author.Needs.{needs}
+use Rattle.rules.specs.Chain.{chain}
+use Rattle.index.specs.Asked.{asked}
+use Rattle.chain.proofs.Linking.{found-none}
+use Rattle.chain.proofs.Deriving.{chain-misfit, chain-fits}
 use Rattle.chain.proofs.derivation.chain_of.Statement.{statement}
 use Rattle.chain.proofs.derivation.chain_of.Tie as tie
+
+returns : tie.Need-returns
+returns c =
+    let a = c .before .before .args in
+    found-none (a .steps .now) _ 3 (λ e. omega (arith, e)) (chain-misfit (a .steps .now) (asked (a .index .now)) (a .security) (a .delivering) (a .receiving) (c .if1 .taken))
 
 home-of-requires : tie.Need-home-of-requires
 home-of-requires c κs = search needs
@@ -20,17 +25,24 @@ route-of-requires c κs = search needs
 steps-along-requires : tie.Need-steps-along-requires
 steps-along-requires c κs = search needs
 
-returns : tie.Need-returns
+same-length : tie.Need-same-length
+same-length c = search needs
+
+returns-2 : tie.Need-returns-2
 unfolding chain
-returns c =
-    let x = c .steps-along .result in
-    let t = c .steps-along .ensures in
-    -- the array of the steps found has 16 rows
-    let n : length (x .steps .rows) ≡ 16 = length-mapped _ (x .steps .rows) 16 (c .steps-along .ok .1 .1 .1 .0 .1 .1 .1 .0 .1 .0 .1) in
-    rw (← c .before .before .before .home-of .ensures, ← c .before .before .home-of2 .ensures, ← c .before .route-of .ensures)
-    (t .0, (t .1 .0, (counted (x .steps) n (t .1 .1) ∙ ap length (t .1 .0), t .1 .1)))
+returns-2 c =
+    let a = c .before .before .before .before .before .before .before .before .before .args in
+    rw (chain-fits (a .steps .now) (asked (a .index .now)) (a .security) (a .delivering) (a .receiving) (c .before .before .before .before .before .before .before .if1 .left), ← c .before .before .before .before .before .before .home-of .ensures, ← c .before .before .before .before .before .home-of2 .ensures, ← c .before .before .before .before .route-of .ensures)
+    (c .before .before .steps-along .ensures)
 
 pub chain-of-spec : {M : Type 1} → statement M
 chain-of-spec =
     tie.close
-    (tie.spec home-of-requires home-of-requires-2 route-of-requires steps-along-requires returns)
+    (tie.spec
+    returns
+    home-of-requires
+    home-of-requires-2
+    route-of-requires
+    steps-along-requires
+    same-length
+    returns-2)

@@ -1,60 +1,59 @@
--- The loop's invariant: the steps put, then those left turned, are the first steps and the whole side turned.
-use borrow.Author.Needs.{needs}
+-- The loop's invariant: what adds the steps left, turned, adds the whole side turned.
 use Prim.Native.Nat.{_+_, _≤_}
-use mathlib.Core.Path.{_≡_, refl}
-use lib.ListN.{length}
+use mathlib.Core.Path.{_≡_, refl, ap, _∙_}
 use native.Mathlib.Omega.{arith}
-use Rattle.rules.specs.Chain.{step, stepRows}
-use Rattle.directory.proofs.Laws.{length-mapped}
-use Rattle.chain.proofs.Climbing.{Turns, turn-one, turn-none}
+use lib.ListN.{length}
+use borrow.Author.Needs.{needs}
+use Rattle.chain.proofs.StepList.{length-step}
+use Rattle.chain.proofs.Putting.{Turning, turns-one, turns-none}
 use Rattle.chain.proofs.steps.add_turned.Statement.{statement}
 use Rattle.chain.proofs.steps.add_turned.Tie as tie
 
 abbrev Inv-loop : tie.InvT-loop
-Inv-loop side more₀ i₀ more i =
-    (i ≤ side .count) × (more .count + i ≡ more₀ .count + side .count) × Turns (side .rows) (stepRows more₀) (side .count) i (stepRows more)
+Inv-loop steps₀ count side left n₀ i₀ steps n i = (i ≤ left) × (n + i ≡ count + left) × (length steps ≡ length steps₀) × Turning side steps₀ count left i steps n
 
 abbrev μ-loop : tie.MeasureT-loop
-μ-loop side more₀ i₀ more i = i
+μ-loop steps₀ count side left n₀ i₀ steps n i = i
 
 loop-holds : tie.Need-loop-holds Inv-loop μ-loop
-loop-holds c = (search needs, refl, refl)
+loop-holds c = (search needs, refl, refl, λ end e a. a)
 
 sub-i : tie.Need-sub-i Inv-loop μ-loop
 sub-i c = search needs
 
-mul-step : tie.Need-mul-step Inv-loop μ-loop
-mul-step c = search needs
+step-at-requires : tie.Need-step-at-requires Inv-loop μ-loop
+step-at-requires c κs = search needs
 
-element-copy-out-step : tie.Need-element-copy-out-step Inv-loop μ-loop
-element-copy-out-step c = search needs
+put-step-requires : tie.Need-put-step-requires Inv-loop μ-loop
+put-step-requires c κs = search needs
 
-push-requires : tie.Need-push-requires Inv-loop μ-loop
-push-requires c κs = search needs
+add-n : tie.Need-add-n Inv-loop μ-loop
+add-n c = search needs
 
 loop-less : tie.Need-loop-less Inv-loop μ-loop
 loop-less c = search needs
 
 loop-again : tie.Need-loop-again Inv-loop μ-loop
 loop-again c =
-    let l = c .before .before .before in
-    let a = l .before .args in
-    let n : length (a .t2 .rows) ≡ 16 = search length-mapped in
-    let inv = l .loop .inv in (
+    let l = c .before .before .before .before .before .before .before .loop in
+    let a = c .before .before .before .before .before .before .before .before .before .args in
+    let inv = l .inv in
+    let put = c .before .before .put-step .ensures in (
       omega (arith, inv .0),
-      omega (arith, inv .1, c .push .ensures .1),
-      turn-one (a .t2 .rows) (stepRows (a .steps)) (a .t2 .count) (l .loop .i) (step 0 0 0) (stepRows (l .loop .more)) (stepRows (c .push .result))
-          (omega arith) (omega (arith, inv .0, l .before .pre .1)) (inv .2) (c .push .ensures .0),
+      omega (arith, inv .1),
+      ap length put ∙ (length-step (l .steps) (l .n) _ ∙ inv .2),
+      turns-one (a .side .now) (a .steps .now) (a .count) (a .left) (l .i) (l .n) (l .steps) _ (c .before .before .before .before .step-at .result)
+          (omega arith) (omega (arith, inv .0, inv .1, c .before .before .before .before .before .before .before .before .before .pre)) (c .before .before .before .before .step-at .ensures) put (inv .3),
     )
+
+same-length : tie.Need-same-length Inv-loop μ-loop
+same-length c = search needs
 
 returns : tie.Need-returns Inv-loop μ-loop
 returns c =
-    let l = c .before in
-    let a = l .before .args in
-    let inv = l .loop .inv in (
-      turn-none (a .t2 .rows) (stepRows (a .steps)) (a .t2 .count) (l .loop .i) (stepRows (l .loop .more)) (omega arith) (inv .2),
-      omega (arith, inv .1, l .before .pre),
-    )
+    let l = c .before .loop in
+    let a = c .before .before .before .args in
+    (turns-none (a .side .now) (a .steps .now) (a .count) (a .left) (l .i) (l .n) (l .steps) (omega arith) (l .inv .3), omega (arith, l .inv .1, c .before .before .before .pre))
 
 pub add-turned-spec : {M : Type 1} → statement M
 add-turned-spec =
@@ -64,9 +63,10 @@ add-turned-spec =
     μ-loop
     loop-holds
     sub-i
-    mul-step
-    element-copy-out-step
-    push-requires
+    step-at-requires
+    put-step-requires
+    add-n
     loop-less
     loop-again
+    same-length
     returns)

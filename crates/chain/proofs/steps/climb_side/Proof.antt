@@ -1,31 +1,34 @@
 -- The loop's invariant: the steps put, before the climb from here on, are the whole climb.
-use borrow.Author.Needs.{needs}
-use Prim.Native.Nat.{_-_, _≤_}
-use mathlib.Core.Path.{_≡_, sym, _∙_}
-use lib.ListN.{length}
+use Prim.Native.Nat.{ℕ, _+_, _-_, _<_}
+use mathlib.Core.Path.{_≡_, sym, ap, _∙_}
+use mathlib.Core.List.{List}
 use native.Mathlib.Omega.{arith}
-use Rattle.rules.specs.Directory.{pairRows}
-use Rattle.rules.specs.Chain.{stepRows}
-use Rattle.directory.proofs.Found.{pair-row, pair-missing}
+use lib.ListN.{length, getD}
+use mir.Syntax.{w8}
+use mir.Val.{Fits}
+use borrow.Author.Needs.{needs}
+use Rattle.rules.specs.Walks.{sideLimit}
+use Rattle.index.specs.Asked.{asked}
+use Rattle.index.proofs.Found.{pair-row, pair-missing}
+use Rattle.chain.specs.StepList.{stepNumbers, stepsIn}
+use Rattle.chain.proofs.StepList.{steps-none, length-step, one-more}
 use Rattle.chain.proofs.Climbing.{Climbs, climb-starts, climb-ends, climb-fails, climb-goes-on}
 use Rattle.chain.proofs.steps.climb_side.Statement.{statement}
 use Rattle.chain.proofs.steps.climb_side.Tie as tie
 
 abbrev Inv-loop : tie.InvT-loop
-Inv-loop pairs side account csds at₀ steps₀ i₀ at steps i =
-    (i ≤ 7) × (steps .count ≡ i) × Climbs (pairRows pairs) (side .csds) (side .count) account i (stepRows steps) at
+Inv-loop index side account steps₀ csds at₀ i₀ steps at i =
+    (i < sideLimit)
+    × (length steps ≡ stepNumbers)
+    × Climbs (asked index) (side .csds) (side .count) account i (stepsIn steps i) at
 
 abbrev μ-loop : tie.MeasureT-loop
-μ-loop pairs side account csds at₀ steps₀ i₀ at steps i = 7 - i
-
-no-steps-requires : tie.Need-no-steps-requires Inv-loop μ-loop
-no-steps-requires c κs = search needs
+μ-loop index side account steps₀ csds at₀ i₀ steps at i = sideLimit - i
 
 loop-holds : tie.Need-loop-holds Inv-loop μ-loop
 loop-holds c =
-    let a = c .before .before .args in
-    let e = c .no-steps .ensures in
-    (search needs, e, climb-starts (pairRows (a .pairs)) (a .side .csds) (a .side .count) (a .account) (stepRows (c .no-steps .result)) (rw e))
+    let a = c .before .args in
+    (search needs, c .before .pre, climb-starts (asked (a .index .now)) (a .side .csds) (a .side .count) (a .account) (stepsIn (a .steps .now) 0) (steps-none (a .steps .now)))
 
 add-loop : tie.Need-add-loop Inv-loop μ-loop
 add-loop c = search needs
@@ -35,9 +38,10 @@ add-if1 c = search needs
 
 returns : tie.Need-returns Inv-loop μ-loop
 returns c =
-    let l = c .before .before .before in
-    let a = l .before .before .before .args in
-    (climb-ends (pairRows (a .pairs)) (a .side .csds) (a .side .count) (a .account) (l .loop .i) (stepRows (l .loop .steps)) (l .loop .at) (l .loop .inv .2) (omega arith), omega (arith, l .loop .inv .0, l .loop .inv .1))
+    let l = c .before .before .before .loop in
+    let a = c .before .before .before .before .before .args in
+    let steps = stepsIn (l .steps) (l .i) in
+    (climb-ends (asked (a .index .now)) (a .side .csds) (a .side .count) (a .account) (l .i) steps (l .at) (l .inv .2) (omega arith), (l .inv .0, l .inv .1))
 
 array-read-csd : tie.Need-array-read-csd Inv-loop μ-loop
 array-read-csd c = search needs
@@ -59,14 +63,15 @@ enum-told c = search needs
 
 returns-2 : tie.Need-returns-2 Inv-loop μ-loop
 returns-2 c =
-    let l = c .before .before .before .before .before .before in
-    let a = l .before .before .before .args in
-    let n : length (a .side .csds) ≡ 8 = search needs in
-    let e = pair-missing _ (sym (c .before .before .pair-of .ensures) ∙ c .enum-told .given .1) in
-    (climb-fails (pairRows (a .pairs)) (a .side .csds) (a .side .count) (a .account) (l .loop .i) (stepRows (l .loop .steps)) (l .loop .at) (l .loop .inv .2) (omega arith) (omega arith) e, omega (arith, l .loop .inv .0, l .loop .inv .1))
+    let l = c .before .before .before .before .before .before .loop in
+    let a = c .before .before .before .before .before .before .before .before .args in
+    let steps = stepsIn (l .steps) (l .i) in
+    let named : length (a .side .csds) ≡ sideLimit = search needs in
+    let missing = pair-missing _ (sym (c .before .before .pair-of .ensures) ∙ c .enum-told .given .1) in
+    (climb-fails (asked (a .index .now)) (a .side .csds) (a .side .count) (a .account) (l .i) steps (l .at) (l .inv .2) (omega arith) (omega arith) missing, (l .inv .0, l .inv .1))
 
-push-requires : tie.Need-push-requires Inv-loop μ-loop
-push-requires c κs = search needs
+put-step-requires : tie.Need-put-step-requires Inv-loop μ-loop
+put-step-requires c κs = search needs
 
 add-i : tie.Need-add-i Inv-loop μ-loop
 add-i c = search needs
@@ -76,21 +81,26 @@ loop-less c = search needs
 
 loop-again : tie.Need-loop-again Inv-loop μ-loop
 loop-again c =
-    let l = c .before .before .before .before .before .before .before .before in
-    let a = l .before .before .before .args in
-    let n : length (a .side .csds) ≡ 8 = search needs in
-    let e = pair-row _ _ (sym (c .before .before .before .before .pair-of .ensures) ∙ c .before .before .pair .given .1) in (
+    let l = c .before .before .before .before .before .before .before .before .before .loop in
+    let a = c .before .before .before .before .before .before .before .before .before .before .before .args in
+    let steps = stepsIn (l .steps) (l .i) in
+    let named : length (a .side .csds) ≡ sideLimit = search needs in
+    let byte : Fits w8 (getD (a .side .csds) (l .i) 0) = search needs in
+    let row = pair-row _ _ (sym (c .before .before .before .before .before .pair-of .ensures) ∙ c .before .before .before .pair .given .1) in
+    let put = c .put-step .ensures in (
       omega arith,
-      omega (arith, l .loop .inv .1, c .push .ensures .1),
-      climb-goes-on (pairRows (a .pairs)) (a .side .csds) (a .side .count) (a .account) (l .loop .i) (stepRows (l .loop .steps)) (l .loop .at) (l .loop .inv .2) (omega arith) (omega arith) _ (stepRows (c .push .result)) e (c .push .ensures .0),
+      ap length put ∙ (length-step (l .steps) (l .i) _ ∙ l .inv .1),
+      climb-goes-on (asked (a .index .now)) (a .side .csds) (a .side .count) (a .account) (l .i) steps (l .at) (l .inv .2) (omega arith) (omega arith) _ _ row
+          (ap (λ (k : List ℕ). stepsIn k (l .i + 1)) put ∙ one-more (l .steps) (l .i) _ (l .inv .1) (omega arith) (omega arith)),
     )
 
 returns-3 : tie.Need-returns-3 Inv-loop μ-loop
 returns-3 c =
-    let l = c .before in
-    let a = l .before .before .before .args in
-    let n : length (a .side .csds) ≡ 8 = search needs in
-    (climb-ends (pairRows (a .pairs)) (a .side .csds) (a .side .count) (a .account) (l .loop .i) (stepRows (l .loop .steps)) (l .loop .at) (l .loop .inv .2) (omega arith), omega (arith, l .loop .inv .0, l .loop .inv .1))
+    let l = c .before .loop in
+    let a = c .before .before .before .args in
+    let steps = stepsIn (l .steps) (l .i) in
+    let named : length (a .side .csds) ≡ sideLimit = search needs in
+    (climb-ends (asked (a .index .now)) (a .side .csds) (a .side .count) (a .account) (l .i) steps (l .at) (l .inv .2) (omega arith), (l .inv .0, l .inv .1))
 
 pub climb-side-spec : {M : Type 1} → statement M
 climb-side-spec =
@@ -98,7 +108,6 @@ climb-side-spec =
     (tie.spec
     Inv-loop
     μ-loop
-    no-steps-requires
     loop-holds
     add-loop
     add-if1
@@ -110,7 +119,7 @@ climb-side-spec =
     enum-known-pair
     enum-told
     returns-2
-    push-requires
+    put-step-requires
     add-i
     loop-less
     loop-again

@@ -1,21 +1,18 @@
 -- The route's refusal, 18 where a pair is missing, or the steps of both sides with what stands between.
-use mathlib.Core.Path.{_∙_}
-use mathlib.Core.List.{append-assoc}
+use mathlib.Core.List.{[]}
 use native.Mathlib.Omega.{arith}
-use borrow.Author.Tests.{not-true, not-false}
-use Rattle.rules.specs.Directory.{pairRows, linkRows}
-use Rattle.chain.proofs.Linking.{gives-refusal, gives-steps, along-refused, along-unpaired, along-paired}
 use borrow.Author.Needs.{needs}
+use borrow.Author.Tests.{not-true, not-false}
+use Rattle.index.specs.Asked.{asked}
+use Rattle.chain.proofs.StepList.{holds-none}
+use Rattle.chain.proofs.Linking.{found-none, found-steps, along-refused, along-unpaired, along-paired}
 use Rattle.chain.proofs.steps.steps_along.Statement.{statement}
 use Rattle.chain.proofs.steps.steps_along.Tie as tie
-
-unchained-requires : tie.Need-unchained-requires
-unchained-requires c κs = search needs
 
 returns : tie.Need-returns
 returns c =
     let a = c .before .before .before .args in
-    rw (along-refused (pairRows (a .pairs)) (linkRows (a .links)) (a .security) (a .delivering) (a .receiving) (a .route) (c .before .if1 .taken)) (gives-refusal (a .route .refusal) (c .unchained .result) (c .before .if1 .taken) (c .unchained .ensures))
+    found-none (a .steps .now) _ (a .route .refusal) (c .if1 .taken) (along-refused (asked (a .index .now)) (a .security) (a .delivering) (a .receiving) (a .route) (c .if1 .taken))
 
 climb-side-requires : tie.Need-climb-side-requires
 climb-side-requires c κs = search needs
@@ -23,15 +20,13 @@ climb-side-requires c κs = search needs
 climb-side-requires-2 : tie.Need-climb-side-requires-2
 climb-side-requires-2 c κs = search needs
 
-unchained-requires-2 : tie.Need-unchained-requires-2
-unchained-requires-2 c κs = search needs
-
 returns-2 : tie.Need-returns-2
 returns-2 c =
-    let a = c .before .before .before .before .before .before .before .before .args in
-    let e = along-unpaired (pairRows (a .pairs)) (linkRows (a .links)) (a .security) (a .delivering) (a .receiving) (a .route) (c .before .before .before .before .before .before .if1 .left) (c .before .before .before .before .before .climb-side .result) (c .before .before .before .before .climb-side2 .result)
-    (c .before .before .before .before .before .climb-side .ensures .0) (c .before .before .before .before .climb-side2 .ensures .0) (not-true _ (c .before .if2 .taken)) in
-    rw e (gives-refusal 18 (c .unchained2 .result) (λ z. omega arith) (c .unchained2 .ensures))
+    let a = c .before .before .before .before .before .before .before .before .before .before .args in
+    let up = c .before .before .before .before .before .climb-side in
+    let down = c .before .before .before .climb-side2 in
+    found-none (a .steps .now) _ 18 (λ e. omega (arith, e))
+    (along-unpaired (asked (a .index .now)) (a .security) (a .delivering) (a .receiving) (a .route) (c .before .before .before .before .before .before .before .if1 .left) (up .result) (down .result) (up .last .1 .1 .1 .0) (down .last .1 .1 .1 .0) (up .ensures .0) (down .ensures .0) (not-true _ (c .if2 .taken)))
 
 last-of-requires : tie.Need-last-of-requires
 last-of-requires c κs = search needs
@@ -39,32 +34,45 @@ last-of-requires c κs = search needs
 last-of-requires-2 : tie.Need-last-of-requires-2
 last-of-requires-2 c κs = search needs
 
+put-side-requires : tie.Need-put-side-requires
+put-side-requires c κs = search needs
+
 add-top-requires : tie.Need-add-top-requires
 add-top-requires c κs = search needs
 
 add-turned-requires : tie.Need-add-turned-requires
 add-turned-requires c κs = search needs
 
+same-length : tie.Need-same-length
+same-length c = search needs
+
 returns-3 : tie.Need-returns-3
 returns-3 c =
-    let a = c .before .before .before .before .before .before .before .before .before .before .before .args in
-    let e = along-paired (pairRows (a .pairs)) (linkRows (a .links)) (a .security) (a .delivering) (a .receiving) (a .route) (c .before .before .before .before .before .before .before .before .before .if1 .left) (c .before .before .before .before .before .before .before .before .climb-side .result) (c .before .before .before .before .before .before .before .climb-side2 .result)
-    (c .before .before .before .before .before .before .before .before .climb-side .ensures .0) (c .before .before .before .before .before .before .before .climb-side2 .ensures .0) (not-false _ (c .before .before .before .before .if2 .left)) in
-    rw (e, ← c .before .before .before .last-of .ensures, ← c .before .before .last-of2 .ensures)
-    (gives-steps (c .add-turned .result) _ (c .add-turned .ensures .0 ∙ rw (c .before .add-top .ensures .0, append-assoc)) (c .add-turned .ensures .1))
+    let a = c .before .before .before .before .before .before .before .before .before .before .before .before .before .before .before .before .before .before .before .before .before .before .before .before .before .before .args in
+    let size = c .before .before .before .before .before .before .before .before .before .before .before .before .before .before .before .before .before .before .before .before .before .before .before .before .before .before .pre in
+    let up = c .before .before .before .before .before .before .before .before .before .before .before .before .before .before .before .before .before .before .before .before .before .climb-side in
+    let down = c .before .before .before .before .before .before .before .before .before .before .before .before .before .before .before .before .before .before .before .climb-side2 in
+    let from = c .before .before .before .before .before .before .before .before .before .before .before .before .before .before .before .last-of in
+    let to = c .before .before .before .before .before .before .before .before .before .before .before .before .before .before .last-of2 in
+    let side = c .before .before .before .before .before .before .before .before .before .before .before .put-side .ensures (a .steps .now) [] size (holds-none (a .steps .now)) in
+    let top = c .before .before .before .before .before .before .before .add-top .ensures .0 (a .steps .now) _ size side in
+    found-steps _ _ _ (c .before .before .add-turned .ensures .1)
+    (along-paired (asked (a .index .now)) (a .security) (a .delivering) (a .receiving) (a .route) (c .before .before .before .before .before .before .before .before .before .before .before .before .before .before .before .before .before .before .before .before .before .before .before .if1 .left) (up .result) (down .result) (up .last .1 .1 .1 .0) (down .last .1 .1 .1 .0) (up .ensures .0) (down .ensures .0) (not-false _ (c .before .before .before .before .before .before .before .before .before .before .before .before .before .before .before .before .if2 .left))
+    (from .result) (to .result) (from .ensures) (to .ensures))
+    (c .before .before .add-turned .ensures .0 (a .steps .now) _ size top)
 
 pub steps-along-spec : {M : Type 1} → statement M
 steps-along-spec =
     tie.close
     (tie.spec
-    unchained-requires
     returns
     climb-side-requires
     climb-side-requires-2
-    unchained-requires-2
     returns-2
     last-of-requires
     last-of-requires-2
+    put-side-requires
     add-top-requires
     add-turned-requires
+    same-length
     returns-3)

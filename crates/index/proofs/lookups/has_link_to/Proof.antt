@@ -1,22 +1,22 @@
--- The index has it; what a link names are rows.
-use mathlib.Core.Path.{sym, _∙_}
+-- The list has it, if all three are within the tables.
 use native.Mathlib.Omega.{arith}
-use Rattle.rules.specs.Directory.{rowsOf, linkRows, hasLinkTo}
-use Rattle.index.specs.Index.{linkAt}
-use Rattle.index.proofs.Reading.{facts, flag-told}
-use Rattle.index.proofs.LinkReading.{unlinked}
+use borrow.Author.Tests.{lt-ltb, le-ltb}
+use Rattle.index.specs.Asked.{read, asked}
 use borrow.Author.Needs.{needs}
 use Rattle.index.proofs.lookups.has_link_to.Statement.{statement}
 use Rattle.index.proofs.lookups.has_link_to.Tie as tie
 
 returns : tie.Need-returns
-returns c d h = let a = c .before .before .args in sym (unlinked (rowsOf d) (a .security) (a .csd) (facts h) (a .technical) (λ s k t. omega arith))
+unfolding asked read
+returns c = rw (le-ltb (c .before .args .security) 16 (omega arith))
 
 returns-2 : tie.Need-returns-2
-returns-2 c d h = let a = c .before .before .before .args in sym (unlinked (rowsOf d) (a .security) (a .csd) (facts h) (a .technical) (λ s k t. omega arith))
+unfolding asked read
+returns-2 c = let a = c .before .before .args in rw (lt-ltb (a .security) 16 (omega arith), le-ltb (a .csd) 32 (omega arith))
 
 returns-3 : tie.Need-returns-3
-returns-3 c d h = let a = c .before .before .before .before .args in sym (unlinked (rowsOf d) (a .security) (a .csd) (facts h) (a .technical) (λ s k t. omega arith))
+unfolding asked read
+returns-3 c = let a = c .before .before .before .args in rw (lt-ltb (a .security) 16 (omega arith), lt-ltb (a .csd) 32 (omega arith), le-ltb (a .technical) 32 (omega arith))
 
 mul-entry : tie.Need-mul-entry
 mul-entry c = search needs
@@ -37,10 +37,10 @@ entry-requires : tie.Need-entry-requires
 entry-requires c κs = search needs
 
 returns-4 : tie.Need-returns-4
-returns-4 c d h =
-    let a = c .before .before .before .before .before .args in
-    rw (c .entry .ensures ∙ h .at (linkAt (a .security) (a .csd) (a .technical)) (omega arith))
-    (flag-told (hasLinkTo (linkRows (d .links)) (a .security) (a .csd) (a .technical)))
+unfolding asked read
+returns-4 c =
+    let a = c .before .before .before .before .args in
+    rw (lt-ltb (a .security) 16 (omega arith), lt-ltb (a .csd) 32 (omega arith), lt-ltb (a .technical) 32 (omega arith), ← c .entry .ensures)
 
 pub has-link-to-spec : {M : Type 1} → statement M
 has-link-to-spec =

@@ -1,15 +1,15 @@
--- The index has it; beyond the table there is no row.
-use mathlib.Core.Path.{sym, ap, _∙_}
+-- The list has it at its place; beyond the table it is 0.
+use mathlib.Core.Path.{_∙_}
 use native.Mathlib.Omega.{arith}
-use Rattle.rules.specs.Directory.{accountRows}
-use Rattle.index.specs.Index.{homeCode, homeAt}
-use Rattle.index.proofs.Reading.{facts, past}
+use borrow.Author.Tests.{lt-ltb, le-ltb}
+use Rattle.index.specs.Index.{homeAt}
+use Rattle.index.proofs.Read.{read-in, read-off}
 use borrow.Author.Needs.{needs}
 use Rattle.index.proofs.lookups.home_code.Statement.{statement}
 use Rattle.index.proofs.lookups.home_code.Tie as tie
 
 returns : tie.Need-returns
-returns c d h = sym (ap homeCode (past (accountRows (d .accounts)) (c .before .before .args .account) (omega (arith, facts h .fewAccounts))))
+returns c = let a = c .before .args in read-off (a .index .now) (homeAt (a .account)) (le-ltb (a .account) 256 (omega arith))
 
 add-entry : tie.Need-add-entry
 add-entry c = search needs
@@ -18,7 +18,7 @@ entry-requires : tie.Need-entry-requires
 entry-requires c κs = search needs
 
 returns-2 : tie.Need-returns-2
-returns-2 c d h = c .entry .ensures ∙ h .at (homeAt (c .before .before .before .args .account)) (omega arith)
+returns-2 c = let a = c .before .before .args in c .entry .ensures ∙ read-in (a .index .now) (homeAt (a .account)) (lt-ltb (a .account) 256 (omega arith))
 
 pub home-code-spec : {M : Type 1} → statement M
 home-code-spec = tie.close (tie.spec returns add-entry entry-requires returns-2)

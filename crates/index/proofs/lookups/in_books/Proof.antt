@@ -1,7 +1,5 @@
 -- The code is one more than the CSD.
-use lib.ListN.{getElem?}
-use Rattle.rules.specs.Directory.{accountRows, inBooks}
-use Rattle.index.proofs.Reading.{books-told}
+use Rattle.index.specs.Asked.{asked}
 use borrow.Author.Needs.{needs}
 use Rattle.index.proofs.lookups.in_books.Statement.{statement}
 use Rattle.index.proofs.lookups.in_books.Tie as tie
@@ -13,10 +11,8 @@ add-result : tie.Need-add-result
 add-result c = search needs
 
 returns : tie.Need-returns
-unfolding inBooks
-returns c d h =
-    let a = c .before .before .args in
-    rw (c .home-code .ensures d h) (books-told (a .csd) (getElem? (accountRows (d .accounts)) (a .account)))
+unfolding asked
+returns c = rw (c .home-code .ensures)
 
 pub in-books-spec : {M : Type 1} → statement M
 in-books-spec = tie.close (tie.spec home-code-requires add-result returns)

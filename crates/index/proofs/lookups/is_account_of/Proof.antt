@@ -10,7 +10,7 @@ is-kind-requires : tie.Need-is-kind-requires
 is-kind-requires c κs = search needs
 
 returns : tie.Need-returns
-returns c d h = rw (c .before .in-books .ensures d h, c .is-kind .ensures d h)
+returns c = rw (c .before .in-books .ensures, c .is-kind .ensures)
 
 pub is-account-of-spec : {M : Type 1} → statement M
 is-account-of-spec = tie.close (tie.spec in-books-requires is-kind-requires returns)

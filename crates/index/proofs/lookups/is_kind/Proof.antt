@@ -1,7 +1,5 @@
 -- The code is one more than the kind.
-use lib.ListN.{getElem?}
-use Rattle.rules.specs.Directory.{accountRows, isKind}
-use Rattle.index.proofs.Reading.{kind-told}
+use Rattle.index.specs.Asked.{asked}
 use borrow.Author.Needs.{needs}
 use Rattle.index.proofs.lookups.is_kind.Statement.{statement}
 use Rattle.index.proofs.lookups.is_kind.Tie as tie
@@ -13,10 +11,8 @@ add-result : tie.Need-add-result
 add-result c = search needs
 
 returns : tie.Need-returns
-unfolding isKind
-returns c d h =
-    let a = c .before .before .args in
-    rw (c .kind-code .ensures d h) (kind-told (a .kind) (getElem? (accountRows (d .accounts)) (a .account)))
+unfolding asked
+returns c = rw (c .kind-code .ensures)
 
 pub is-kind-spec : {M : Type 1} → statement M
 is-kind-spec = tie.close (tie.spec kind-code-requires add-result returns)

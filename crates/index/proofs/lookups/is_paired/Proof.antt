@@ -1,15 +1,14 @@
--- The index has it; an account in a pair is a row.
-use mathlib.Core.Path.{sym, _∙_}
+-- The list has it; an account beyond the table is in no pair.
 use native.Mathlib.Omega.{arith}
-use Rattle.rules.specs.Directory.{rowsOf, pairRows, isPaired}
-use Rattle.index.specs.Index.{pairedAt}
-use Rattle.index.proofs.Reading.{facts, unpaired, flag-told}
+use borrow.Author.Tests.{lt-ltb, le-ltb}
+use Rattle.index.specs.Asked.{read, asked}
 use borrow.Author.Needs.{needs}
 use Rattle.index.proofs.lookups.is_paired.Statement.{statement}
 use Rattle.index.proofs.lookups.is_paired.Tie as tie
 
 returns : tie.Need-returns
-returns c d h = sym (unpaired (rowsOf d) (facts h) (c .before .before .args .account) (omega arith))
+unfolding asked read
+returns c = rw (le-ltb (c .before .args .account) 256 (omega arith))
 
 add-entry : tie.Need-add-entry
 add-entry c = search needs
@@ -18,9 +17,8 @@ entry-requires : tie.Need-entry-requires
 entry-requires c κs = search needs
 
 returns-2 : tie.Need-returns-2
-returns-2 c d h =
-    let a = c .before .before .before .args in
-    rw (c .entry .ensures ∙ h .at (pairedAt (a .account)) (omega arith)) (flag-told (isPaired (pairRows (d .pairs)) (a .account)))
+unfolding asked read
+returns-2 c = let a = c .before .before .args in rw (lt-ltb (a .account) 256 (omega arith), ← c .entry .ensures)
 
 pub is-paired-spec : {M : Type 1} → statement M
 is-paired-spec = tie.close (tie.spec returns add-entry entry-requires returns-2)

@@ -1,6 +1,5 @@
 -- The index has the count.
-use Rattle.rules.specs.Tests.{isRow}
-use Rattle.index.specs.Index.{securityCount}
+use Rattle.index.specs.Asked.{read, asked}
 use borrow.Author.Needs.{needs}
 use Rattle.index.proofs.lookups.is_security.Statement.{statement}
 use Rattle.index.proofs.lookups.is_security.Tie as tie
@@ -9,8 +8,8 @@ entry-requires : tie.Need-entry-requires
 entry-requires c κs = search needs
 
 returns : tie.Need-returns
-unfolding isRow
-returns c d h = rw (c .entry .ensures, h .at securityCount tt)
+unfolding asked read
+returns c = rw (c .entry .ensures)
 
 pub is-security-spec : {M : Type 1} → statement M
 is-security-spec = tie.close (tie.spec entry-requires returns)

@@ -1,28 +1,42 @@
--- The index has the account of an issuer link.
+-- An issuer's code stands within the list, and so does its account.
 use mathlib.Core.Path.{sym, _∙_}
-use Rattle.rules.specs.Directory.{rowsOf}
-use Rattle.index.proofs.LinkReading.{issuance-read, no-issuance}
+use native.Mathlib.Omega.{arith}
+use borrow.Author.Tests.{lt-leb, le-leb}
+use Rattle.index.specs.Index.{routeAt, issuanceAt, issuerCode}
+use Rattle.index.specs.Asked.{asked}
+use Rattle.index.proofs.Read.{read-in, read-within}
 use borrow.Author.Needs.{needs}
 use Rattle.index.proofs.lookups.issuance_of.Statement.{statement}
 use Rattle.index.proofs.lookups.issuance_of.Tie as tie
 
-has-issuer-requires : tie.Need-has-issuer-requires
-has-issuer-requires c κs = search needs
-
-code-at-requires : tie.Need-code-at-requires
-code-at-requires c κs = search needs
+route-code-requires : tie.Need-route-code-requires
+route-code-requires c κs = search needs
 
 returns : tie.Need-returns
-returns c d h =
-    let l = c .before .before in
-    let a = l .before .before .args in
-    issuance-read h (a .security) (a .csd) (c .code-at .result) (c .code-at .ensures .0) (sym (l .has-issuer .ensures d h) ∙ c .before .if1 .taken)
+unfolding asked
+returns c = rw (← c .before .route-code .ensures, lt-leb issuerCode (c .before .route-code .result) (c .if1 .taken))
+
+mul-entry : tie.Need-mul-entry
+mul-entry c = search needs
+
+add-entry : tie.Need-add-entry
+add-entry c = search needs
+
+add-entry-2 : tie.Need-add-entry-2
+add-entry-2 c = search needs
+
+entry-requires : tie.Need-entry-requires
+entry-requires c κs = search needs
 
 returns-2 : tie.Need-returns-2
-returns-2 c d h =
-    let l = c .before in
-    let a = l .before .before .args in
-    no-issuance (rowsOf d) (a .security) (a .csd) (sym (l .has-issuer .ensures d h) ∙ c .if1 .left)
+unfolding asked
+returns-2 c =
+    let a = c .before .before .before .args in
+    let code = c .before .before .route-code in
+    let i = read-within (a .index .now) (routeAt (a .security) (a .csd)) (λ e. omega (arith, code .ensures ∙ e, c .before .if1 .left)) in
+    rw (← code .ensures, le-leb issuerCode (code .result) (c .before .if1 .left)) (c .entry .ensures ∙ read-in (a .index .now) (issuanceAt (a .security) (a .csd)) i)
 
 pub issuance-of-spec : {M : Type 1} → statement M
-issuance-of-spec = tie.close (tie.spec has-issuer-requires code-at-requires returns returns-2)
+issuance-of-spec =
+    tie.close
+    (tie.spec route-code-requires returns mul-entry add-entry add-entry-2 entry-requires returns-2)

@@ -1,7 +1,7 @@
 -- By the command's byte: the desk's entry of the row that its decoder reads.
 use mathlib.Core.Path.{ap, _∙_}
 use native.Mathlib.Omega.{arith}
-use Rattle.rules.specs.Directory.{csdRow, securityRow}
+use Rattle.rules.specs.Entries.{csdRow, securityRow}
 use Rattle.desk.specs.Outcomes.{enteredOn}
 use Rattle.probe.proofs.Tags.{csd-row, security-row, account-row, pair-row, link-row}
 use borrow.Author.Needs.{needs}

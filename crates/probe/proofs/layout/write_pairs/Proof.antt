@@ -4,7 +4,7 @@ use mathlib.Core.Path.{_≡_, refl}
 use Prim.Native.Nat.{_+_, _≤_, _-_}
 use native.Mathlib.Omega.{arith}
 use lib.ListN.{length}
-use Rattle.rules.specs.Directory.{blankPair}
+use Rattle.rules.specs.Entries.{blankPair}
 use Rattle.probe.specs.Layout.{bytesIn, pairBytes, Put}
 use Rattle.probe.proofs.Bytes.{put-none, put-more, put-done}
 use Rattle.probe.proofs.layout.write_pairs.Statement.{statement}

@@ -29,13 +29,10 @@ same-length-3 c = search needs
 
 returns : tie.Need-returns
 returns c =
-    let a = c .before .before .before .before .before .before .before .before .before .before .before .before .before .before .args in
-    let k = c .before .before .before .before .settle .ensures in (
-      λ d x long.
-          rw (settle-call (a .tag) (now (a .operands)) (c .before .before .before .before .before .before .before .before .if1 .taken), ← c .before .before .before .before .before .before .before .before .before .before .decode-delivering .ensures, ← c .before .before .before .before .before .before .before .before .before .decode-receiving .ensures)
-          (settle-obeys (c .before .before .before .before .before .before .before .before .before .before .decode-delivering .result) (c .before .before .before .before .before .before .before .before .before .decode-receiving .result) d (now (a .positions)) (now (a .cash)) _ _ _ _ _ x (k .0 d x long) (k .1 .0 d x long) (k .1 .1 .0 d x long) (k .1 .1 .1 .0 d x long)),
-      k .1 .1 .1 .1,
-    )
+    let p = c .before .before .before .before .before .before .before .before in
+    let a = p .before .before .before .before .before .args in
+    rw (settle-call (a .tag) (now (a .operands)) (p .if1 .taken), ← p .before .before .decode-delivering .ensures, ← p .before .decode-receiving .ensures)
+    (λ names. settle-obeys _ _ (now (a .index)) (now (a .steps)) _ _ (same-length-3 c) names (now (a .positions)) (now (a .cash)) _ _ (c .before .before .before .before .settle .ensures))
 
 derive-requires : tie.Need-derive-requires
 derive-requires c κs = search needs
@@ -45,15 +42,12 @@ same-length-4 c = search needs
 
 returns-2 : tie.Need-returns-2
 returns-2 c =
-    let s = c .before .before .before .before .before .before .before .before .before .before in
+    let p = c .before .before .before .before in
+    let s = p .before .before .before .before .before in
     let a = s .args in
-    let k = c .before .before .derive .ensures in
-    let above : 11 ≤ a .tag = omega (arith, s .pre, c .before .before .before .before .if1 .left) in (
-      λ d x long.
-          rw (derive-call (a .tag) (now (a .operands)) above, ← c .before .before .before .before .before .before .decode-delivering .ensures, ← c .before .before .before .before .before .decode-receiving .ensures)
-          (derive-obeys (c .before .before .before .before .before .before .decode-delivering .result) (c .before .before .before .before .before .decode-receiving .result) d (now (a .positions)) (now (a .cash)) _ _ _ x (k .0 d x long) (k .1 .0 d x long)),
-      k .1 .1,
-    )
+    let above : 11 ≤ a .tag = omega (arith, s .pre, p .if1 .left) in
+    rw (derive-call (a .tag) (now (a .operands)) above, ← p .before .before .decode-delivering .ensures, ← p .before .decode-receiving .ensures)
+    (λ names. derive-obeys _ _ (now (a .index)) (now (a .steps)) _ _ (same-length-4 c) names (now (a .positions)) (now (a .cash)) (c .before .before .derive .ensures))
 
 pub instruct-spec : {M : Type 1} → statement M
 instruct-spec =

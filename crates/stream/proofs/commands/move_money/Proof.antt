@@ -1,4 +1,4 @@
--- `stream::commands::move_money` meets its contract: the operands decoded, and the core of the way that the byte says. Assumes nothing.
+-- `stream::commands::move_money` meets its contract: the operands decoded, and paid the way that the byte says. Assumes nothing.
 use mathlib.Core.Path.{sym, ap, _∙_}
 use lib.Dec.{eqb}
 use denote.Ref.{now}
@@ -21,11 +21,12 @@ same-length : tie.Need-same-length
 same-length c = search needs
 
 returns : tie.Need-returns
-returns c = λ d x.
-    let s = c .before .before .before .before .before .before in
+returns c =
+    let s = c .before .before .before .before .before in
     let a = s .args in
-    pay-obeys _ _ _ _ d (now (a .cash)) _ _ (pay-call (a .tag) (now (a .operands)) (s .pre .0) (s .pre .1) ∙ ap (λ (y : Payment). pay (wayOf (eqb (a .tag) 8)) (y .account) (y .amount)) (sym (c .before .before .before .decode-payment .ensures)))
-    (c .before .move-cash .ensures .0 d x) (c .before .move-cash .ensures .1 d x)
+    let m = c .before .move-cash .ensures in
+    pay-obeys _ _ _ _ (now (a .index)) (now (a .cash)) _ _ (pay-call (a .tag) (now (a .operands)) (s .pre .0) (s .pre .1) ∙ ap (λ (y : Payment). pay (wayOf (eqb (a .tag) 8)) (y .account) (y .amount)) (sym (c .before .before .before .decode-payment .ensures)))
+    (m .0) (m .1)
 
 pub move-money-spec : {M : Type 1} → statement M
 move-money-spec =

@@ -1,4 +1,4 @@
--- `stream::commands::move_units` meets its contract: the operands decoded, and the core of the way that the byte says. Assumes nothing.
+-- `stream::commands::move_units` meets its contract: the operands decoded, and moved the way that the byte says. Assumes nothing.
 use mathlib.Core.Path.{sym, ap, _∙_}
 use lib.Dec.{eqb}
 use denote.Ref.{now}
@@ -21,11 +21,12 @@ same-length : tie.Need-same-length
 same-length c = search needs
 
 returns : tie.Need-returns
-returns c = λ d x.
-    let s = c .before .before .before .before .before .before in
+returns c =
+    let s = c .before .before .before .before .before in
     let a = s .args in
-    move-obeys _ _ _ _ _ d (now (a .positions)) _ _ (move-call (a .tag) (now (a .operands)) (s .pre .0) (s .pre .1) ∙ ap (λ (y : Move). move (wayOf (eqb (a .tag) 6)) (y .account) (y .security) (y .quantity)) (sym (c .before .before .before .decode-move .ensures)))
-    (c .before .move-securities .ensures .0 d x) (c .before .move-securities .ensures .1 d x)
+    let m = c .before .move-securities .ensures in
+    move-obeys _ _ _ _ _ (now (a .index)) (now (a .positions)) _ _ (move-call (a .tag) (now (a .operands)) (s .pre .0) (s .pre .1) ∙ ap (λ (y : Move). move (wayOf (eqb (a .tag) 6)) (y .account) (y .security) (y .quantity)) (sym (c .before .before .before .decode-move .ensures)))
+    (m .0) (m .1)
 
 pub move-units-spec : {M : Type 1} → statement M
 move-units-spec =

@@ -1,8 +1,7 @@
 -- `stream::turns::take_turn` meets its contract: by what stands at the place, nothing, a stop, or a command obeyed and told. Assumes nothing.
-use mathlib.Core.Path.{refl, sym, _∙_}
+use mathlib.Core.Path.{sym, _∙_}
 use native.Mathlib.Omega.{arith}
 use Rattle.wire.proofs.Found.{stands, operands-long}
-use Rattle.stream.specs.Obeyed.{store}
 use Rattle.stream.proofs.Telling.{takes-nothing, takes-unknown, takes-cut, takes-command}
 use borrow.Author.Needs.{needs}
 use Rattle.stream.proofs.turns.take_turn.Statement.{statement}
@@ -37,23 +36,26 @@ enum-known-tag c = search needs
 
 sub-obey : tie.Need-sub-obey
 sub-obey c =
-    let a = c .before .before .before .before .before .before .before .before .before .before .before .before .args in
-    let x = c .before .before .before .before .before .tag .given .0 in
-    let h = stands (a .input .now) (a .at) (x .0) (x .1 .0) (x .1 .1 .0) (sym (c .before .before .before .before .before .before .before .next-in .ensures) ∙ c .before .before .before .before .before .tag .given .1) in
+    let p = c .before .before .before .before .before .before in
+    let a = p .before .before .before .before .before .before .args in
+    let x = p .tag .given .0 in
+    let h = stands (a .input .now) (a .at) (x .0) (x .1 .0) (x .1 .1 .0) (sym (p .before .before .next-in .ensures) ∙ p .tag .given .1) in
     omega (arith, h .starts, h .forward)
 
 part-obey-start : tie.Need-part-obey-start
 part-obey-start c =
-    let a = c .before .before .before .before .before .before .before .before .before .before .before .before .args in
-    let x = c .before .before .before .before .before .tag .given .0 in
-    let h = stands (a .input .now) (a .at) (x .0) (x .1 .0) (x .1 .1 .0) (sym (c .before .before .before .before .before .before .before .next-in .ensures) ∙ c .before .before .before .before .before .tag .given .1) in
+    let p = c .before .before .before .before .before .before in
+    let a = p .before .before .before .before .before .before .args in
+    let x = p .tag .given .0 in
+    let h = stands (a .input .now) (a .at) (x .0) (x .1 .0) (x .1 .1 .0) (sym (p .before .before .next-in .ensures) ∙ p .tag .given .1) in
     search needs
 
 part-obey-end : tie.Need-part-obey-end
 part-obey-end c =
-    let a = c .before .before .before .before .before .before .before .before .before .before .before .before .args in
-    let x = c .before .before .before .before .before .tag .given .0 in
-    let h = stands (a .input .now) (a .at) (x .0) (x .1 .0) (x .1 .1 .0) (sym (c .before .before .before .before .before .before .before .next-in .ensures) ∙ c .before .before .before .before .before .tag .given .1) in
+    let p = c .before .before .before .before .before .before in
+    let a = p .before .before .before .before .before .before .args in
+    let x = p .tag .given .0 in
+    let h = stands (a .input .now) (a .at) (x .0) (x .1 .0) (x .1 .1 .0) (sym (p .before .before .next-in .ensures) ∙ p .tag .given .1) in
     search needs
 
 obey-requires : tie.Need-obey-requires
@@ -72,25 +74,25 @@ same-length : tie.Need-same-length
 same-length c = search needs
 
 returns : tie.Need-returns
-returns c =
-    let a = c .before .before .before .before .before .before .before .before .before .before .before .before .args in
-    (λ d x long. takes-nothing (a .input .now) (a .number) (a .at) d (a .index .now) (a .positions .now) (a .cash .now) x (a .out .now) (a .end) _ _ (sym (c .before .before .before .before .before .before .before .next-in .ensures) ∙ c .before .before .before .before .before .enum-told .given .1) (c .before .before .put-word .ensures), refl)
+returns c = λ st holds.
+    let a = c .before .before .before .before .before .before .before .before .before .before .before .args in
+    takes-nothing (a .input .now) (a .number) (a .at) (a .out .now) (a .end) st _ holds _ _ (sym (c .before .before .before .before .before .before .before .next-in .ensures) ∙ c .before .before .before .before .before .enum-told .given .1) (c .before .before .put-word .ensures)
 
 same-length-2 : tie.Need-same-length-2
 same-length-2 c = search needs
 
 returns-2 : tie.Need-returns-2
-returns-2 c =
-    let a = c .before .before .before .before .before .before .before .before .before .before .before .args in
-    (λ d x long. takes-unknown (a .input .now) (a .number) (a .at) d (a .index .now) (a .positions .now) (a .cash .now) x (a .out .now) (a .end) _ _ (sym (c .before .before .before .before .before .before .next-in .ensures) ∙ c .before .before .before .before .enum-told2 .given .1) (c .before .before .stop .ensures), refl)
+returns-2 c = λ st holds.
+    let a = c .before .before .before .before .before .before .before .before .before .before .args in
+    takes-unknown (a .input .now) (a .number) (a .at) (a .out .now) (a .end) st _ holds _ _ (sym (c .before .before .before .before .before .before .next-in .ensures) ∙ c .before .before .before .before .enum-told2 .given .1) (c .before .before .stop .ensures)
 
 same-length-3 : tie.Need-same-length-3
 same-length-3 c = search needs
 
 returns-3 : tie.Need-returns-3
-returns-3 c =
-    let a = c .before .before .before .before .before .before .before .before .before .before .before .args in
-    (λ d x long. takes-cut (a .input .now) (a .number) (a .at) d (a .index .now) (a .positions .now) (a .cash .now) x (a .out .now) (a .end) _ _ (sym (c .before .before .before .before .before .before .next-in .ensures) ∙ c .before .before .before .before .enum-told3 .given .1) (c .before .before .stop2 .ensures), refl)
+returns-3 c = λ st holds.
+    let a = c .before .before .before .before .before .before .before .before .before .before .args in
+    takes-cut (a .input .now) (a .number) (a .at) (a .out .now) (a .end) st _ holds _ _ (sym (c .before .before .before .before .before .before .next-in .ensures) ∙ c .before .before .before .before .enum-told3 .given .1) (c .before .before .stop2 .ensures)
 
 same-length-4 : tie.Need-same-length-4
 same-length-4 c = search needs
@@ -104,21 +106,15 @@ same-length-6 c = search needs
 same-length-7 : tie.Need-same-length-7
 same-length-7 c = search needs
 
-same-length-8 : tie.Need-same-length-8
-same-length-8 c = search needs
-
 returns-4 : tie.Need-returns-4
-returns-4 c =
-    let a = c .before .before .before .before .before .before .before .before .before .before .before .before .before .before .before .before .before .before .before .before .before .before .before .before .before .before .before .before .before .before .args in
-    let x = c .before .before .before .before .before .before .before .before .before .before .before .before .before .before .before .before .before .before .before .before .before .before .before .tag .given .0 in
-    let o = c .before .before .before .before .before .before .before .before .before .before .before .before .before .before .before .before .obey in
-    let next = sym (c .before .before .before .before .before .before .before .before .before .before .before .before .before .before .before .before .before .before .before .before .before .before .before .before .before .next-in .ensures) ∙ c .before .before .before .before .before .before .before .before .before .before .before .before .before .before .before .before .before .before .before .before .before .before .before .tag .given .1 in
-    let whole = operands-long (stands (a .input .now) (a .at) (x .0) (x .1 .0) (x .1 .1 .0) next) in (
-      λ d i long.
-          takes-command (a .input .now) (a .number) (a .at) (store d (a .positions .now) (a .cash .now)) (a .out .now) (a .end) (x .0) (x .1 .0) (x .1 .1 .0) (o .result) _ _ _ _ _ _ _ _ _ next
-          (o .ensures .0 d i long whole) (c .before .before .before .before .before .before .before .before .put-line .ensures) (c .before .before .before .before .count-of .ensures) (c .before .before .put-steps .ensures (o .ensures .1 ∙ long)),
-      o .ensures .1,
-    )
+returns-4 c = λ st holds.
+    let p = c .before .before .before .before .before .before .before .before .before .before .before .before .before .before .before .before .before .before .before .before .before .before in
+    let a = p .before .before .before .before .before .before .args in
+    let x = p .tag .given .0 in
+    let next = sym (p .before .before .next-in .ensures) ∙ p .tag .given .1 in
+    let whole = operands-long (stands (a .input .now) (a .at) (x .0) (x .1 .0) (x .1 .1 .0) next) in
+    takes-command (a .input .now) (a .number) (a .at) (a .out .now) (a .end) st (x .0) (x .1 .0) (x .1 .1 .0) _ _ _ _ _ _ _ next
+    (c .before .before .before .before .before .before .before .before .before .before .before .before .before .before .obey .ensures whole st holds) (c .before .before .before .before .before .before .before .before .put-line .ensures) (c .before .before .before .before .count-of .ensures) (c .before .before .put-steps .ensures)
 
 pub take-turn-spec : {M : Type 1} → statement M
 take-turn-spec =
@@ -150,5 +146,4 @@ take-turn-spec =
     same-length-5
     same-length-6
     same-length-7
-    same-length-8
     returns-4)

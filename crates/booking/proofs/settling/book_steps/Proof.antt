@@ -1,0 +1,74 @@
+-- The positions are those that the steps so far make of the positions at the start, and the next step has room.
+use borrow.Author.Needs.{needs}
+use mathlib.Core.Path.{_≡_, refl, _∙_}
+use Prim.Native.Nat.{_≤_, _-_}
+use native.Mathlib.Omega.{arith}
+use lib.ListN.{length}
+use Rattle.rules.specs.Booking.{booked}
+use Rattle.chain.specs.StepList.{stepsIn}
+use Rattle.booking.proofs.Listed.{booked-none, booked-more, next-room}
+use Rattle.booking.proofs.settling.book_steps.Statement.{statement}
+use Rattle.booking.proofs.settling.book_steps.Tie as tie
+
+abbrev Inv-loop : tie.InvT-loop
+Inv-loop positions₀ security quantity steps count i₀ positions i =
+    (i ≤ count) × (length positions ≡ length positions₀) × (positions ≡ booked (stepsIn steps i) security quantity positions₀)
+
+abbrev μ-loop : tie.MeasureT-loop
+μ-loop positions₀ security quantity steps count i₀ positions i = count - i
+
+loop-holds : tie.Need-loop-holds Inv-loop μ-loop
+loop-holds c =
+    let a = c .before .args in
+    (search needs, refl, booked-none (a .steps .now) (a .security) (a .quantity) (a .positions .now))
+
+step-at-requires : tie.Need-step-at-requires Inv-loop μ-loop
+step-at-requires c κs = search needs
+
+move-units-requires : tie.Need-move-units-requires Inv-loop μ-loop
+move-units-requires c κs =
+    let l = c .before .before .before in
+    let s = l .before .before in
+    let a = s .args in
+    let free = next-room (a .steps .now) (l .loop .i) (a .security) (a .quantity) (a .positions .now) (a .count)
+    (s .pre .0) (s .pre .1) (omega arith) (s .pre .2) in
+    (s .pre .0, rw (l .loop .inv .2, c .step-at .ensures) free)
+
+add-i : tie.Need-add-i Inv-loop μ-loop
+add-i c = search needs
+
+loop-less : tie.Need-loop-less Inv-loop μ-loop
+loop-less c = search needs
+
+loop-again : tie.Need-loop-again Inv-loop μ-loop
+loop-again c =
+    let moved = c .before in
+    let l = moved .before .before .before .before in
+    let s = l .before .before in
+    let a = s .args in
+    let e = rw (moved .before .step-at .ensures, l .loop .inv .2) at (moved .move-units .ensures) in
+    (omega arith, moved .move-units .kept .0 ∙ l .loop .inv .1, e ∙ booked-more (a .steps .now) (l .loop .i) (a .security) (a .quantity) (a .positions .now))
+
+same-length : tie.Need-same-length Inv-loop μ-loop
+same-length c = c .before .loop .inv .1
+
+returns : tie.Need-returns Inv-loop μ-loop
+returns c =
+    let l = c .before in
+    let e : l .loop .i ≡ l .before .before .args .count = omega arith in
+    rw e at (l .loop .inv .2)
+
+pub book-steps-spec : {M : Type 1} → statement M
+book-steps-spec =
+    tie.close
+    (tie.spec
+    Inv-loop
+    μ-loop
+    loop-holds
+    step-at-requires
+    move-units-requires
+    add-i
+    loop-less
+    loop-again
+    same-length
+    returns)

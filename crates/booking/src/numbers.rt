@@ -1,0 +1,40 @@
+// One signed number of a list: read, and changed.
+ghost use mathlib.Core.Path.{_≡_};
+ghost use mathlib.Core.Bool.{cond};
+ghost use Prim.Native.Nat.{_≤_};
+ghost use lib.IntN.{pos, negℤ, _+ℤ_};
+ghost use lib.ListN.{getD, set};
+ghost use mir.Syntax.{w64};
+ghost use mir.Val.{SFits};
+ghost use Rattle.rules.specs.Booking.{limit};
+
+// The number at k, and 0 behind the end.
+pub(crate) fn read_at(list: &[i64], k: usize) -> i64
+    ensures { λ r. ⌜ r ≡ getD (now (list .entry)) k (pos 0) ⌝ }
+{
+    if k < list.len() {
+        return list[k];
+    }
+    0
+}
+
+// n as a change upwards or downwards.
+pub(crate) fn signed(n: u64, rises: bool) -> i64
+    requires { ⌜ n ≤ limit ⌝ }
+    ensures { λ r. ⌜ r ≡ cond rises (pos n) (negℤ (pos n)) ⌝ }
+{
+    if rises {
+        return n as i64;
+    }
+    0 - (n as i64)
+}
+
+// z more at k.
+pub(crate) fn add_at(list: &mut [i64], k: usize, z: i64)
+    requires { ⌜ SFits w64 (getD (now list) k (pos 0) +ℤ z) ⌝ }
+    ensures { λ _. ⌜ now (list .exit) ≡ set (now (list .entry)) k (getD (now (list .entry)) k (pos 0) +ℤ z) ⌝ }
+{
+    if k < list.len() {
+        list[k] = list[k] + z;
+    }
+}

@@ -1,0 +1,298 @@
+// Document 01's examples by the desk's functions alone: its chains by example, then its worked example, booked and taken back.
+// A drawing has a link for each three bytes: `A>C` is a default link, `A~B` an alternative, `I=I` an issuer.
+use desk::empty;
+use rules::ACCOUNTS;
+use rules::Account;
+use rules::Answer;
+use rules::Directory;
+use rules::NO_ACCOUNT;
+use rules::NO_CSD;
+use rules::POSITIONS;
+use rules::SECURITIES;
+use rules::STEPS;
+use rules::Security;
+
+// ---- what is printed
+
+fn put(text: &[u8]) {
+    io::write_all(libc::STDOUT_FILENO, text);
+}
+
+// A number after a word.
+fn put_number(word: &[u8], n: u64) {
+    put(word);
+    io::print_decimal(libc::STDOUT_FILENO, n);
+}
+
+fn put_signed(word: &[u8], x: i64) {
+    put(word);
+    if x < 0 {
+        put_number(b"-", ((-1 - x) as u64) + 1);
+    } else {
+        put_number(b"", x as u64);
+    }
+}
+
+// "K steps mean 2 × K − 2 generated instructions."
+fn put_answer(answer: Answer) {
+    match answer {
+        Answer::Accepted => put(b"ok"),
+        Answer::Booked(count) => put_number(b"booked ", count as u64),
+        Answer::Chained(count) => {
+            put_number(b"chain ", count as u64);
+            match count {
+                1..=STEPS => put_number(b", generated ", (2 * count - 2) as u64),
+                _ => put(b""),
+            }
+        }
+        Answer::Refused(number) => put_number(b"no ", number as u64),
+    }
+    put(b"\n");
+}
+
+// A step as a line, or its CSD alone, which is one of eight.
+fn put_step(names: &[u8; 8], step: rules::Step, line: bool) {
+    let name = [b'-', b' ', names[(step.csd % 8) as usize], b' '];
+    if !line {
+        put(&name[2..]);
+        return;
+    }
+    put(&name);
+    put_number(b"", step.debited as u64);
+    put_number(b" ", step.credited as u64);
+    put(b"\n");
+}
+
+fn put_steps(names: &[u8; 8], steps: rules::Steps, lines: bool) {
+    let mut i: usize = 0;
+    while i < STEPS {
+        if steps.count <= i {
+            return;
+        }
+        put_step(names, steps.rows[i], lines);
+        i += 1;
+    }
+}
+
+// A CSD by one byte of its BIC.
+fn csd(external: u8, byte: u8) -> rules::Csd {
+    let mut bic = *b"AAAAXX00XXX";
+    bic[7] = byte;
+    rules::Csd { external, bic }
+}
+
+fn pair(investor: u8, technical: u8, mirror: u16, omnibus: u16) -> rules::Pair {
+    rules::Pair {
+        investor,
+        technical,
+        mirror,
+        omnibus,
+    }
+}
+
+fn link(kind: u8, csd: u8, technical: u8, flag: u8, account: u16) -> rules::Link {
+    rules::Link {
+        security: 0,
+        kind,
+        csd,
+        technical,
+        flag,
+        account,
+    }
+}
+
+fn half(account: u16, counterpart: u8, quantity: u64, amount: u64) -> rules::Half {
+    rules::Half {
+        account,
+        counterpart,
+        security: 0,
+        quantity,
+        amount,
+    }
+}
+
+// ---- chains by example
+
+// A, B, C, D, I, J are in T2S, X and Y are external.
+fn csd_of(letter: u8) -> u8 {
+    match letter {
+        b'A'..=b'D' => letter - b'A',
+        b'I'..=b'J' => letter - b'I' + 4,
+        b'X'..=b'Y' => letter - b'X' + 6,
+        _ => NO_CSD,
+    }
+}
+
+fn after(entered: rules::Entered) -> Directory {
+    entered.directory
+}
+
+fn with_account(directory: Directory, csd: u8, kind: u8) -> Directory {
+    after(desk::enter_account(directory, Account { csd, kind }))
+}
+
+// A CSD in T2S with two participants and an issuance account: those of the CSD c are 3c, 3c + 1 and 3c + 2.
+fn with_csd(directory: Directory, letter: u8) -> Directory {
+    let at = csd_of(letter);
+    let one = with_account(after(desk::enter_csd(directory, csd(0, letter))), at, 0);
+    with_account(with_account(one, at, 0), at, 4)
+}
+
+fn start() -> Directory {
+    let b = with_csd(with_csd(empty(), b'A'), b'B');
+    let d = with_csd(with_csd(b, b'C'), b'D');
+    let j = with_csd(with_csd(d, b'I'), b'J');
+    let x = after(desk::enter_csd(j, csd(1, b'X')));
+    let y = after(desk::enter_csd(x, csd(1, b'Y')));
+    let isin = *b"XS0000000009";
+    after(desk::enter_security(y, Security { isin }))
+}
+
+// The pair of two CSDs, with new accounts, numbered by the count of those entered.
+fn with_pair(directory: Directory, csd: u8, technical: u8) -> Directory {
+    let new = (directory.accounts.count % ACCOUNTS) as u16;
+    if csd_of(b'X') <= technical {
+        let inter = with_account(directory, csd, 3);
+        return after(desk::enter_pair(inter, pair(csd, technical, new, NO_ACCOUNT)));
+    }
+    let both = with_account(with_account(directory, csd, 2), technical, 1);
+    after(desk::enter_pair(both, pair(csd, technical, new, new + 1)))
+}
+
+fn drawn_link(directory: Directory, from: u8, sign: u8, to: u8) -> Directory {
+    let csd = csd_of(from);
+    if sign == b'=' {
+        let issuance = 3 * (csd as u16) + 2;
+        return after(desk::enter_link(directory, link(0, csd, NO_CSD, 1, issuance)));
+    }
+    let technical = csd_of(to);
+    let paired = with_pair(directory, csd, technical);
+    let flag = (sign == b'>') as u8;
+    after(desk::enter_link(paired, link(1, csd, technical, flag, NO_ACCOUNT)))
+}
+
+fn drawn(drawing: &[u8]) -> Directory {
+    let mut directory = start();
+    let mut i: usize = 0;
+    while i + 2 < drawing.len() {
+        directory = drawn_link(directory, drawing[i], drawing[i + 1], drawing[i + 2]);
+        i += 4;
+    }
+    directory
+}
+
+// A delivery of 100 from the first participant of A to the second of another CSD, or of A.
+fn show(letter: u8, drawing: &[u8]) {
+    let to = csd_of(letter);
+    let receiving = half(3 * (to as u16) + 1, 0, 100, 0);
+    let reply = desk::derive_by_value(drawn(drawing), half(0, to, 100, 0), receiving);
+    let answer = reply.answer;
+    let ends = [b'A', b' ', b't', b'o', b' ', letter, b',', b' '];
+    put(&ends);
+    put(drawing);
+    put(b": ");
+    put_steps(b"ABCDIJXY", reply.steps, false);
+    put_answer(answer);
+    put_steps(b"ABCDIJXY", reply.steps, true);
+}
+
+// The first has D = R: no link is read.
+fn chains() {
+    show(b'A', b"B>I I=I");
+    show(b'B', b"A>C C>I B>D D>I I=I");
+    show(b'B', b"A>I B>I I=I");
+    show(b'B', b"A>B B>I I=I");
+    show(b'B', b"A>C B>C C>X");
+    show(b'B', b"A>I B>J I=I J=J");
+    show(b'B', b"A>I B>J I=I J=J A~B");
+    show(b'B', b"A>C C>X B>D D>X C~B");
+    show(b'B', b"A>X B>Y");
+    show(b'B', b"A>I B>X I=I");
+    show(b'B', b"A>X B>I I=I");
+    show(b'B', b"A>C C>I B>D D>I I=I A~B");
+    show(b'B', b"B>I I=I");
+}
+
+// ---- the worked example
+
+fn told(entered: rules::Entered) -> Directory {
+    let answer = entered.answer;
+    put_answer(answer);
+    entered.directory
+}
+
+// CSD 0 has the participant 0 and the mirror 1; CSD 1 has the omnibus 2, the issuance account 3 and the participant 4.
+fn worked() -> Directory {
+    let first = told(desk::enter_csd(empty(), csd(0, b'0')));
+    let second = told(desk::enter_csd(first, csd(0, b'1')));
+    let isin = *b"XS0000000009";
+    let listed = told(desk::enter_security(second, Security { isin }));
+    let one = told(desk::enter_account(listed, Account { csd: 0, kind: 0 }));
+    let two = told(desk::enter_account(one, Account { csd: 0, kind: 2 }));
+    let three = told(desk::enter_account(two, Account { csd: 1, kind: 1 }));
+    let four = told(desk::enter_account(three, Account { csd: 1, kind: 4 }));
+    let five = told(desk::enter_account(four, Account { csd: 1, kind: 0 }));
+    let paired = told(desk::enter_pair(five, pair(0, 1, 1, 2)));
+    let issued = told(desk::enter_link(paired, link(0, 1, NO_CSD, 1, 3)));
+    told(desk::enter_link(issued, link(1, 0, 1, 1, NO_ACCOUNT)))
+}
+
+// Rows of securities, positions of accounts 0 to 4, and the totals.
+fn put_store(directory: Directory, positions: &[i64; POSITIONS], cash: &[i64; ACCOUNTS]) {
+    put_number(b"securities ", directory.securities.count as u64);
+    put_signed(b", positions ", positions[0]);
+    put_signed(b" ", positions[SECURITIES]);
+    put_signed(b" ", positions[2 * SECURITIES]);
+    put_signed(b" ", positions[3 * SECURITIES]);
+    put_signed(b" ", positions[4 * SECURITIES]);
+    match desk::security_total(directory, positions, 0) {
+        rules::SecurityTotal::SumUnits(sum) => put_signed(b", total ", sum.0),
+        rules::SecurityTotal::NoUnits(number) => put_number(b", no ", number as u64),
+    }
+    match desk::cash_total(cash) {
+        rules::CashTotal::SumCents(sum) => put_signed(b", cash ", sum.0),
+        rules::CashTotal::NoCents(number) => put_number(b", no ", number as u64),
+    }
+    put(b"\n");
+}
+
+// A delivery between the participants 0 of CSD 0 and 4 of CSD 1.
+fn settle(
+    directory: Directory,
+    positions: &mut [i64; POSITIONS],
+    cash: &mut [i64; ACCOUNTS],
+    from: u16,
+    to: u16,
+    quantity: u64,
+    amount: u64,
+) {
+    let delivering = half(from, (0 < to) as u8, quantity, amount);
+    let receiving = half(to, (0 < from) as u8, quantity, amount);
+    let reply = desk::settle_by_value(directory, positions, cash, delivering, receiving);
+    let answer = reply.answer;
+    put_answer(answer);
+    put_steps(b"01234567", reply.steps, true);
+    put_store(directory, positions, cash);
+}
+
+fn book(directory: Directory, positions: &mut [i64; POSITIONS], cash: &mut [i64; ACCOUNTS]) {
+    put_answer(desk::bring_in(directory, positions, 4, 0, 100));
+    put_store(directory, positions, cash);
+    settle(directory, positions, cash, 4, 0, 40, 0);
+    put_answer(desk::pay_in(directory, cash, 4, 500));
+    settle(directory, positions, cash, 0, 4, 40, 500);
+    settle(directory, positions, cash, 4, 0, 101, 0);
+    let isin = *b"XS0000000008";
+    let same = told(desk::enter_security(directory, Security { isin }));
+    put_store(same, positions, cash);
+    put_answer(desk::take_out(same, positions, 4, 0, 100));
+    put_answer(desk::pay_out(same, cash, 0, 500));
+    put_store(same, positions, cash);
+}
+
+fn main() {
+    let mut positions = [0i64; POSITIONS];
+    let mut cash = [0i64; ACCOUNTS];
+    chains();
+    book(worked(), &mut positions, &mut cash);
+}

@@ -1,0 +1,71 @@
+-- What is said of every place of an index, table by table: rows that have a table in common have its numbers in common.
+use Prim.Native.Nat.{ℕ}
+use mathlib.Core.Path.{_≡_}
+use mathlib.Core.Logic.{_≢_}
+use mathlib.Core.List.{List}
+use Rattle.rules.specs.Directory.{Rows}
+use Rattle.index.specs.Index.{Place, csdCount, securityCount, accountCount, pairCount, linkCount, typeAt, homeAt, kindAt, pairedAt, mirrorAt, omnibusAt, routeAt, issuanceAt, linkAt, Inside, indexOf}
+use Rattle.entries.proofs.Stored.{Store, Apart}
+
+-- of the places that tell of CSDs
+pub record OfCsds (P : Place → Type 0) : Type 0 where
+  pub count : P csdCount
+  pub type : (c : ℕ) → P (typeAt c)
+
+-- of accounts
+pub record OfAccounts (P : Place → Type 0) : Type 0 where
+  pub count : P accountCount
+  pub home : (a : ℕ) → P (homeAt a)
+  pub kind : (a : ℕ) → P (kindAt a)
+
+-- of pairs
+pub record OfPairs (P : Place → Type 0) : Type 0 where
+  pub count : P pairCount
+  pub paired : (a : ℕ) → P (pairedAt a)
+  pub mirror : (i t : ℕ) → P (mirrorAt i t)
+  pub omnibus : (i t : ℕ) → P (omnibusAt i t)
+
+-- of links
+pub record OfLinks (P : Place → Type 0) : Type 0 where
+  pub count : P linkCount
+  pub route : (s c : ℕ) → P (routeAt s c)
+  pub issuance : (s c : ℕ) → P (issuanceAt s c)
+  pub link : (s c t : ℕ) → P (linkAt s c t)
+
+-- of all
+pub every-place : (P : Place → Type 0) → OfCsds P → P securityCount → OfAccounts P → OfPairs P → OfLinks P → (q : Place) → P q
+every-place P c s a p l csdCount = c .count
+every-place P c s a p l securityCount = s
+every-place P c s a p l accountCount = a .count
+every-place P c s a p l pairCount = p .count
+every-place P c s a p l linkCount = l .count
+every-place P c s a p l (typeAt n) = c .type n
+every-place P c s a p l (homeAt n) = a .home n
+every-place P c s a p l (kindAt n) = a .kind n
+every-place P c s a p l (pairedAt n) = p .paired n
+every-place P c s a p l (mirrorAt i t) = p .mirror i t
+every-place P c s a p l (omnibusAt i t) = p .omnibus i t
+every-place P c s a p l (routeAt n m) = l .route n m
+every-place P c s a p l (issuanceAt n m) = l .issuance n m
+every-place P c s a p l (linkAt n m t) = l .link n m t
+
+-- ---- a place that is neither the count nor stored has the same number for both
+abbrev pub Same : Rows → Rows → Place → List Store → Place → Type 0
+Same r r′ count ss q = Inside q → q ≢ count → Apart q ss → indexOf r q ≡ indexOf r′ q
+
+-- rows that have a table in common
+module _ (r r′ : Rows) (count : Place) (ss : List Store) where
+  pub same-csds : r .csds ≡ r′ .csds → OfCsds (Same r r′ count ss)
+  same-csds e = record { count = λ i o a. rw e; type = λ c i o a. rw e }
+
+  pub same-securities : r .securities ≡ r′ .securities → Same r r′ count ss securityCount
+  same-securities e i o a = rw e
+
+  pub same-accounts : r .accounts ≡ r′ .accounts → OfAccounts (Same r r′ count ss)
+  same-accounts e = record { count = λ i o a. rw e; home = λ n i o a. rw e; kind = λ n i o a. rw e }
+
+  pub same-pairs : r .pairs ≡ r′ .pairs → OfPairs (Same r r′ count ss)
+  same-pairs e = record { count = λ i o a. rw e; paired = λ n i o a. rw e; mirror = λ c t i o a. rw e; omnibus = λ c t i o a. rw e }
+
+  pub same-links : r .links ≡ r′ .links → OfLinks (Same r r′ count ss)
+  same-links e = record { count = λ i o a. rw e; route = λ s c i o a. rw e; issuance = λ s c i o a. rw e; link = λ s c t i o a. rw e }

@@ -1,0 +1,48 @@
+-- A table with one row more behind: the row by its number, and the searches.
+use mathlib.Core.Path.{_≡_, refl, ap}
+use mathlib.Core.Logic.{_≢_}
+use mathlib.Core.Bool.{Bool, true, false}
+use mathlib.Core.List.{List, [], _∷_, _++_}
+use mathlib.Core.Option.{some}
+use Prim.Native.Nat.{ℕ, zero, suc, _+_}
+use lib.ListN.{length, getElem?, length-append}
+use Rattle.rules.specs.Tests.{any, find}
+use Rattle.rules.proofs.Basics.{or-right, or-none}
+
+-- ---- by number
+module _ {A : Type 0} where
+  pub one-more-row : (l : List A) (x : A) → length (l ++ (x ∷ [])) ≡ length l + 1
+  one-more-row l x = length-append l (x ∷ [])
+
+  pub row-new : (l : List A) (x : A) → getElem? (l ++ (x ∷ [])) (length l) ≡ some x
+  row-new [] x = refl
+  row-new (y ∷ l) x = row-new l x
+
+  pub row-old : (l : List A) (x : A) (i : ℕ) → i ≢ length l → getElem? (l ++ (x ∷ [])) i ≡ getElem? l i
+  row-old [] x zero h = absurd (h refl)
+  row-old [] x (suc i) h = refl
+  row-old (y ∷ l) x zero h = refl
+  row-old (y ∷ l) x (suc i) h = row-old l x i (λ e. h (ap suc e))
+
+-- ---- by a test
+module _ {A : Type 0} (t : A → Bool) (x : A) where
+  pub any-kept : (xs : List A) → t x ≡ false → any t (xs ++ (x ∷ [])) ≡ any t xs
+  any-kept [] e = rw e
+  any-kept (y ∷ xs) e = rw (any-kept xs e)
+
+  pub any-new : (xs : List A) → t x ≡ true → any t (xs ++ (x ∷ [])) ≡ true
+  any-new [] e = rw e
+  any-new (y ∷ xs) e = or-right (t y) (any t (xs ++ (x ∷ []))) (any-new xs e)
+
+  pub find-kept : (xs : List A) → t x ≡ false → find t (xs ++ (x ∷ [])) ≡ find t xs
+  find-kept [] e = rw e
+  find-kept (y ∷ xs) e = rw (find-kept xs e)
+
+  pub find-new : (xs : List A) → any t xs ≡ false → t x ≡ true → find t (xs ++ (x ∷ [])) ≡ some x
+  find-new [] n e = rw e
+  find-new (y ∷ xs) n e = let h = or-none (t y) (any t xs) n in rw (h .0) (find-new xs (h .1) e)
+
+-- a test that passes less finds nothing where the other finds nothing
+pub any-narrower : {A : Type 0} (t u : A → Bool) → ((y : A) → u y ≡ false → t y ≡ false) → (xs : List A) → any u xs ≡ false → any t xs ≡ false
+any-narrower t u narrow [] e = refl
+any-narrower t u narrow (y ∷ xs) e = let h = or-none (u y) (any u xs) e in rw (narrow y (h .0), any-narrower t u narrow xs (h .1))

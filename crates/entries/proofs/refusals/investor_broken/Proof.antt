@@ -1,0 +1,23 @@
+-- Each part by its own test.
+use borrow.Author.Needs.{needs}
+use Rattle.entries.proofs.refusals.investor_broken.Statement.{statement}
+use Rattle.entries.proofs.refusals.investor_broken.Tie as tie
+
+has-issuer-requires : tie.Need-has-issuer-requires
+has-issuer-requires c κs = search needs
+
+flag-broken-requires : tie.Need-flag-broken-requires
+flag-broken-requires c κs = search needs
+
+alternative-outside-requires : tie.Need-alternative-outside-requires
+alternative-outside-requires c κs = search needs
+
+returns : tie.Need-returns
+returns c =
+    let flag = c .before .before .before in
+    rw (flag .before .has-issuer .ensures, flag .flag-broken .ensures, c .before .before .alternative-outside .ensures)
+
+pub investor-broken-spec : {M : Type 1} → statement M
+investor-broken-spec =
+    tie.close
+    (tie.spec has-issuer-requires flag-broken-requires alternative-outside-requires returns)

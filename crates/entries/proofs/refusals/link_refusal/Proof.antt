@@ -1,0 +1,95 @@
+-- Past the tests that do not apply, the number of the first that does.
+use Prim.Native.Nat.{ℕ}
+use mathlib.Core.Path.{_≡_, sym, _∙_}
+use lib.ListN.{drop}
+use Rattle.rules.specs.Tests.{lowest}
+use Rattle.rules.specs.Entries.{linkConditions}
+use Rattle.index.specs.Asked.{asked}
+use Rattle.entries.specs.Entered.{linkRefusalIn}
+use borrow.Author.Needs.{needs}
+use Rattle.entries.proofs.refusals.link_refusal.Statement.{statement}
+use Rattle.entries.proofs.refusals.link_refusal.Tie as tie
+
+-- past the first k tests the number is the lowest of the others
+abbrev Past : ℕ → tie.Start → Type 0
+Past k s =
+    let conditions = linkConditions (asked (s .args .index .now)) (s .args .row) in
+    lowest conditions ≡ lowest (drop k conditions)
+
+past1 : (c : tie.Else1) → Past 1 (c .before .before)
+past1 c = rw (← c .before .links-full .ensures, c .if1 .left)
+
+past2 : (c : tie.Else2) → Past 2 (c .before .before .before .before)
+past2 c = past1 (c .before .before) ∙ rw (← c .before .link-unknown .ensures, c .if2 .left)
+
+past3 : (c : tie.Else3) → Past 3 (c .before .before .before .before .before .before .before)
+past3 c = past2 (c .before .before .before) ∙ rw (c .if3 .left)
+
+past4 : (c : tie.Else4) → Past 4 (c .before .before .before .before .before .before .before .before .before)
+past4 c = past3 (c .before .before) ∙ rw (← c .before .technical-entered .ensures, c .if4 .left)
+
+past5 : (c : tie.Else5) → Past 5 (c .before .before .before .before .before .before .before .before .before .before .before)
+past5 c = past4 (c .before .before) ∙ rw (← c .before .wrong-issuance .ensures, c .if5 .left)
+
+past6 : (c : tie.Else6) → Past 6 (c .before .before .before .before .before .before .before .before .before .before .before .before .before)
+past6 c = past5 (c .before .before) ∙ rw (← c .before .rule-broken .ensures, c .if6 .left)
+
+links-full-requires : tie.Need-links-full-requires
+links-full-requires c κs = search needs
+
+returns : tie.Need-returns
+unfolding linkRefusalIn
+returns c = rw (← c .before .links-full .ensures, c .if1 .taken)
+
+link-unknown-requires : tie.Need-link-unknown-requires
+link-unknown-requires c κs = search needs
+
+returns-2 : tie.Need-returns-2
+unfolding linkRefusalIn
+returns-2 c = sym (past1 (c .before .before) ∙ rw (← c .before .link-unknown .ensures, c .if2 .taken))
+
+returns-3 : tie.Need-returns-3
+unfolding linkRefusalIn
+returns-3 c = sym (past2 (c .before .before .before) ∙ rw (c .if3 .taken))
+
+technical-entered-requires : tie.Need-technical-entered-requires
+technical-entered-requires c κs = search needs
+
+returns-4 : tie.Need-returns-4
+unfolding linkRefusalIn
+returns-4 c = sym (past3 (c .before .before) ∙ rw (← c .before .technical-entered .ensures, c .if4 .taken))
+
+wrong-issuance-requires : tie.Need-wrong-issuance-requires
+wrong-issuance-requires c κs = search needs
+
+returns-5 : tie.Need-returns-5
+unfolding linkRefusalIn
+returns-5 c = sym (past4 (c .before .before) ∙ rw (← c .before .wrong-issuance .ensures, c .if5 .taken))
+
+rule-broken-requires : tie.Need-rule-broken-requires
+rule-broken-requires c κs = search needs
+
+returns-6 : tie.Need-returns-6
+unfolding linkRefusalIn
+returns-6 c = sym (past5 (c .before .before) ∙ rw (← c .before .rule-broken .ensures, c .if6 .taken))
+
+returns-7 : tie.Need-returns-7
+unfolding linkRefusalIn
+returns-7 c = sym (past6 c)
+
+pub link-refusal-spec : {M : Type 1} → statement M
+link-refusal-spec =
+    tie.close
+    (tie.spec
+    links-full-requires
+    returns
+    link-unknown-requires
+    returns-2
+    returns-3
+    technical-entered-requires
+    returns-4
+    wrong-issuance-requires
+    returns-5
+    rule-broken-requires
+    returns-6
+    returns-7)

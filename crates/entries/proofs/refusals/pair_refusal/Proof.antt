@@ -1,0 +1,99 @@
+-- Past the tests that do not apply, the number of the first that does.
+use Prim.Native.Nat.{ℕ}
+use mathlib.Core.Path.{_≡_, sym, _∙_}
+use lib.ListN.{drop}
+use Rattle.rules.specs.Tests.{lowest}
+use Rattle.rules.specs.Entries.{pairConditions}
+use Rattle.index.specs.Asked.{asked}
+use Rattle.entries.specs.Entered.{pairRefusalIn}
+use borrow.Author.Needs.{needs}
+use Rattle.entries.proofs.refusals.pair_refusal.Statement.{statement}
+use Rattle.entries.proofs.refusals.pair_refusal.Tie as tie
+
+-- past the first k tests the number is the lowest of the others
+abbrev Past : ℕ → tie.Start → Type 0
+Past k s =
+    let conditions = pairConditions (asked (s .args .index .now)) (s .args .row) in
+    lowest conditions ≡ lowest (drop k conditions)
+
+past1 : (c : tie.Else1) → Past 1 (c .before .before)
+past1 c = rw (← c .before .pairs-full .ensures, c .if1 .left)
+
+past2 : (c : tie.Else2) → Past 2 (c .before .before .before .before)
+past2 c = past1 (c .before .before) ∙ rw (← c .before .pair-unknown .ensures, c .if2 .left)
+
+past3 : (c : tie.Else3) → Past 3 (c .before .before .before .before .before .before .before .before)
+past3 c =
+    let joined = c .before .before .before in
+    past2 (joined .before) ∙ rw (← joined .is-joined .ensures, ← c .before .before .is-paired .ensures, ← c .before .is-paired2 .ensures, c .if3 .left)
+
+past4 : (c : tie.Else4) → Past 4 (c .before .before .before .before .before .before .before .before .before .before)
+past4 c = past3 (c .before .before) ∙ rw (← c .before .wrong-accounts .ensures, c .if4 .left)
+
+past5 : (c : tie.Else5) → Past 5 (c .before .before .before .before .before .before .before .before .before .before .before .before .before .before)
+past5 c = past4 (c .before .before .before .before) ∙ rw (← c .before .before .before .is-external .ensures, c .if5 .left)
+
+pairs-full-requires : tie.Need-pairs-full-requires
+pairs-full-requires c κs = search needs
+
+returns : tie.Need-returns
+unfolding pairRefusalIn
+returns c = rw (← c .before .pairs-full .ensures, c .if1 .taken)
+
+pair-unknown-requires : tie.Need-pair-unknown-requires
+pair-unknown-requires c κs = search needs
+
+returns-2 : tie.Need-returns-2
+unfolding pairRefusalIn
+returns-2 c = sym (past1 (c .before .before) ∙ rw (← c .before .pair-unknown .ensures, c .if2 .taken))
+
+is-joined-requires : tie.Need-is-joined-requires
+is-joined-requires c κs = search needs
+
+is-paired-requires : tie.Need-is-paired-requires
+is-paired-requires c κs = search needs
+
+is-paired-requires-2 : tie.Need-is-paired-requires-2
+is-paired-requires-2 c κs = search needs
+
+returns-3 : tie.Need-returns-3
+unfolding pairRefusalIn
+returns-3 c =
+    let joined = c .before .before .before in
+    sym (past2 (joined .before) ∙ rw (← joined .is-joined .ensures, ← c .before .before .is-paired .ensures, ← c .before .is-paired2 .ensures, c .if3 .taken))
+
+wrong-accounts-requires : tie.Need-wrong-accounts-requires
+wrong-accounts-requires c κs = search needs
+
+returns-4 : tie.Need-returns-4
+unfolding pairRefusalIn
+returns-4 c = sym (past3 (c .before .before) ∙ rw (← c .before .wrong-accounts .ensures, c .if4 .taken))
+
+is-external-requires : tie.Need-is-external-requires
+is-external-requires c κs = search needs
+
+returns-5 : tie.Need-returns-5
+unfolding pairRefusalIn
+returns-5 c = sym (past4 (c .before .before .before .before) ∙ rw (← c .before .before .before .is-external .ensures, c .if5 .taken))
+
+returns-6 : tie.Need-returns-6
+unfolding pairRefusalIn
+returns-6 c = sym (past5 c)
+
+pub pair-refusal-spec : {M : Type 1} → statement M
+pair-refusal-spec =
+    tie.close
+    (tie.spec
+    pairs-full-requires
+    returns
+    pair-unknown-requires
+    returns-2
+    is-joined-requires
+    is-paired-requires
+    is-paired-requires-2
+    returns-3
+    wrong-accounts-requires
+    returns-4
+    is-external-requires
+    returns-5
+    returns-6)

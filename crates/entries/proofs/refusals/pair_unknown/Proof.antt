@@ -1,0 +1,31 @@
+-- Each part by its own test.
+use borrow.Author.Needs.{needs}
+use Rattle.entries.proofs.refusals.pair_unknown.Statement.{statement}
+use Rattle.entries.proofs.refusals.pair_unknown.Tie as tie
+
+is-csd-requires : tie.Need-is-csd-requires
+is-csd-requires c κs = search needs
+
+is-csd-requires-2 : tie.Need-is-csd-requires-2
+is-csd-requires-2 c κs = search needs
+
+is-account-requires : tie.Need-is-account-requires
+is-account-requires c κs = search needs
+
+second-unknown-requires : tie.Need-second-unknown-requires
+second-unknown-requires c κs = search needs
+
+returns : tie.Need-returns
+returns c =
+    let technical = c .before .before in
+    rw (technical .before .is-csd .ensures, technical .is-csd2 .ensures, c .before .is-account .ensures, c .second-unknown .ensures)
+
+pub pair-unknown-spec : {M : Type 1} → statement M
+pair-unknown-spec =
+    tie.close
+    (tie.spec
+    is-csd-requires
+    is-csd-requires-2
+    is-account-requires
+    second-unknown-requires
+    returns)

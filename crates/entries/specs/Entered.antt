@@ -1,0 +1,160 @@
+-- Entries over an index and the identifiers: what refuses a row, and what it adds. Assumes nothing.
+use mathlib.Core.Path.{_≡_}
+use Prim.Native.Nat.{ℕ, zero, suc, _+_, _*_}
+use mathlib.Core.Bool.{cond}
+use mathlib.Core.List.{List}
+use lib.Dec.{ltb, leb, eqb}
+use lib.ListN.{take}
+use Rattle.rules.specs.declared.Csd.{Csd}
+use Rattle.rules.specs.declared.Security.{Security}
+use Rattle.rules.specs.declared.Account.{Account}
+use Rattle.rules.specs.declared.Pair.{Pair}
+use Rattle.rules.specs.declared.Link.{Link}
+use Rattle.rules.specs.declared.Directory.{Directory}
+use Rattle.rules.specs.declared.Answer.{Answer}
+use Rattle.rules.specs.declared.Answer.the-variants.{Accepted, Refused}
+use Rattle.rules.specs.Tests.{lowest}
+use Rattle.rules.specs.Directory.{rowsOf, csdLimit, securityLimit, noAccount}
+use Rattle.rules.specs.Entries.{Row, csdRow, securityRow, accountRow, pairRow, linkRow, csdConditions, securityConditions, accountConditions, pairConditions, linkConditions}
+use Rattle.index.specs.Index.{Indexed, Place, csdCount, securityCount, accountCount, pairCount, linkCount, placeOf, types, homes, kinds, paired, mirrors, omnibuses, routes, issuances, linked, issuerCode, numberAt, withNumber}
+use Rattle.index.specs.Asked.{read, asked}
+use Rattle.entries.specs.Names.{bicSize, isinSize, isins, bicIn, isinIn, withBytes, Named}
+
+-- What is kept of a directory: the numbers of its index, and the bytes of its identifiers.
+pub record Kept : Type 0 where
+  pub numbers : List ℕ
+  pub names : List ℕ
+
+-- it is kept of this sound directory
+pub record Keeps (k : Kept) (d : Directory) : Type 0 where
+  pub indexed : Indexed (k .numbers) d
+  pub named : Named (k .names) (rowsOf d)
+
+-- ---- the refusal of a row, 0 for none
+
+-- of a CSD, by the numbers l and the bytes b
+unfoldable pub csdRefusalIn : List ℕ → List ℕ → Csd → ℕ
+csdRefusalIn l b x = lowest (csdConditions (leb csdLimit (read l csdCount)) (bicIn l b) x)
+
+-- of a security
+unfoldable pub securityRefusalIn : List ℕ → List ℕ → Security → ℕ
+securityRefusalIn l b x = lowest (securityConditions (leb securityLimit (read l securityCount)) (isinIn l b) x)
+
+-- of an account
+unfoldable pub accountRefusalIn : List ℕ → Account → ℕ
+accountRefusalIn l x = lowest (accountConditions (asked l) x)
+
+-- of a pair
+unfoldable pub pairRefusalIn : List ℕ → Pair → ℕ
+pairRefusalIn l x = lowest (pairConditions (asked l) x)
+
+-- of a link
+unfoldable pub linkRefusalIn : List ℕ → Link → ℕ
+linkRefusalIn l x = lowest (linkConditions (asked l) x)
+
+-- of any row
+abbrev pub refusalIn : Kept → Row → ℕ
+refusalIn k (csdRow x) = csdRefusalIn (k .numbers) (k .names) x
+refusalIn k (securityRow x) = securityRefusalIn (k .numbers) (k .names) x
+refusalIn k (accountRow x) = accountRefusalIn (k .numbers) x
+refusalIn k (pairRow x) = pairRefusalIn (k .numbers) x
+refusalIn k (linkRow x) = linkRefusalIn (k .numbers) x
+
+-- ---- what a row adds
+
+-- one more, below the largest 16-bit number
+abbrev pub oneMore : ℕ → ℕ
+oneMore n = cond (ltb n 0xffff) (n + 1) n
+
+-- one row more in the table whose count stands there
+unfoldable pub counted : Place → List ℕ → List ℕ
+counted p l = withNumber l (placeOf p) (oneMore (numberAt l (placeOf p)))
+
+-- a CSD: its type
+unfoldable pub withCsd : Csd → List ℕ → List ℕ
+withCsd x l = counted csdCount (withNumber l (types + numberAt l (placeOf csdCount)) (x .external + 1))
+
+-- and its BIC, where n CSDs are entered
+unfoldable pub withBic : Csd → ℕ → List ℕ → List ℕ
+withBic x n b = withBytes b (bicSize * n) (take bicSize (x .bic))
+
+-- a security
+unfoldable pub withSecurity : Security → List ℕ → List ℕ
+withSecurity x l = counted securityCount l
+
+-- its ISIN, where n securities are entered
+unfoldable pub withIsin : Security → ℕ → List ℕ → List ℕ
+withIsin x n b = withBytes b (isins + isinSize * n) (take isinSize (x .isin))
+
+-- an account: its CSD and its kind
+unfoldable pub withAccount : Account → List ℕ → List ℕ
+withAccount x l =
+    let n = numberAt l (placeOf accountCount) in
+    counted accountCount (withNumber (withNumber l (homes + n) (x .csd + 1)) (kinds + n) (x .kind + 1))
+
+-- an account is in a pair; hex FFFF never is
+unfoldable pub withPaired : ℕ → List ℕ → List ℕ
+withPaired a l = cond (eqb a noAccount) l (withNumber l (paired + a) 1)
+
+-- a pair: its accounts, by investor and technical issuer, each in a pair now
+unfoldable pub withPair : Pair → List ℕ → List ℕ
+withPair x l =
+    let at = x .investor * csdLimit + x .technical in
+    counted pairCount
+    (withPaired (x .omnibus) (withPaired (x .mirror) (withNumber (withNumber l (mirrors + at) (oneMore (x .mirror))) (omnibuses + at) (x .omnibus))))
+
+-- an issuer link's numbers, at the place of its security and CSD
+unfoldable pub withIssuer : ℕ → Link → List ℕ → List ℕ
+withIssuer at x l = withNumber (withNumber l (routes + at) issuerCode) (issuances + at) (x .account)
+
+-- an investor link's: where a default link leads, and that the two are linked
+unfoldable pub withInvestor : ℕ → Link → List ℕ → List ℕ
+withInvestor at x l =
+    withNumber (cond (eqb (x .flag) 1) (withNumber l (routes + at) (x .technical + 1)) l) (linked + (at * csdLimit + x .technical)) 1
+
+-- a link
+unfoldable pub withLink : Link → List ℕ → List ℕ
+withLink x l =
+    let at = x .security * csdLimit + x .csd in
+    counted linkCount (cond (eqb (x .kind) 0) (withIssuer at x l) (withInvestor at x l))
+
+-- any row
+abbrev pub withRowIn : Row → Kept → Kept
+withRowIn (csdRow x) k = record { numbers = withCsd x (k .numbers); names = withBic x (numberAt (k .numbers) (placeOf csdCount)) (k .names) }
+withRowIn (securityRow x) k = record { numbers = withSecurity x (k .numbers); names = withIsin x (numberAt (k .numbers) (placeOf securityCount)) (k .names) }
+withRowIn (accountRow x) k = record { numbers = withAccount x (k .numbers); names = k .names }
+withRowIn (pairRow x) k = record { numbers = withPair x (k .numbers); names = k .names }
+withRowIn (linkRow x) k = record { numbers = withLink x (k .numbers); names = k .names }
+
+-- ---- an entry
+
+-- what it answers, by the refusal's number
+abbrev pub answered : ℕ → Answer
+answered zero = Accepted
+answered (suc n) = Refused (suc n)
+
+-- what it leaves: a list as it was, or with the row
+abbrev pub left : ℕ → List ℕ → List ℕ → List ℕ
+left zero before after = after
+left (suc n) before after = before
+
+-- an entry of a CSD over the numbers l and the bytes b: its answer a, and both lists after it
+pub record EntersCsd (x : Csd) (l b : List ℕ) (a : Answer) (l′ b′ : List ℕ) : Type 0 where
+  pub answer : a ≡ answered (csdRefusalIn l b x)
+  pub numbers : l′ ≡ left (csdRefusalIn l b x) l (withCsd x l)
+  pub names : b′ ≡ left (csdRefusalIn l b x) b (withBic x (numberAt l (placeOf csdCount)) b)
+
+-- of a security
+pub record EntersSecurity (x : Security) (l b : List ℕ) (a : Answer) (l′ b′ : List ℕ) : Type 0 where
+  pub answer : a ≡ answered (securityRefusalIn l b x)
+  pub numbers : l′ ≡ left (securityRefusalIn l b x) l (withSecurity x l)
+  pub names : b′ ≡ left (securityRefusalIn l b x) b (withIsin x (numberAt l (placeOf securityCount)) b)
+
+-- the same of all that is kept
+abbrev pub keptBy : ℕ → Row → Kept → Kept
+keptBy zero x k = withRowIn x k
+keptBy (suc n) x k = k
+
+-- all that is kept after an entry
+unfoldable pub enteredIn : Row → Kept → Kept
+enteredIn x k = keptBy (refusalIn k x) x k

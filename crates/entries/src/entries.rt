@@ -1,0 +1,213 @@
+// The five entries of document 01 over an index: each adds its row's numbers and bytes, or refuses and changes nothing.
+use crate::names::ISINS;
+use crate::names::NAMES;
+use crate::names::put_bytes;
+use crate::refusals::account_refusal;
+use crate::refusals::csd_refusal;
+use crate::refusals::link_refusal;
+use crate::refusals::pair_refusal;
+use crate::refusals::security_refusal;
+use index::places::ACCOUNT_COUNT;
+use index::places::CSD_COUNT;
+use index::places::HOMES;
+use index::places::INDEX;
+use index::places::ISSUANCES;
+use index::places::ISSUER;
+use index::places::KINDS;
+use index::places::LINK_COUNT;
+use index::places::LINKED;
+use index::places::MIRRORS;
+use index::places::OMNIBUSES;
+use index::places::PAIR_COUNT;
+use index::places::PAIRED;
+use index::places::ROUTES;
+use index::places::SECURITY_COUNT;
+use index::places::TYPES;
+use index::places::entry;
+use index::places::store;
+use rules::Account;
+use rules::Answer;
+use rules::BIC;
+use rules::CSDS;
+use rules::Csd;
+use rules::ISIN;
+use rules::Link;
+use rules::NO_ACCOUNT;
+use rules::Pair;
+use rules::Security;
+ghost use mathlib.Core.Path.{_≡_};
+ghost use Prim.Native.Nat.{_<_};
+ghost use Rattle.index.specs.Index.{csdCount, securityCount, placeOf, numberAt, withNumber};
+ghost use Rattle.entries.specs.Entered.{accountRefusalIn, pairRefusalIn, linkRefusalIn};
+ghost use Rattle.entries.specs.Entered.{oneMore, withCsd, withBic, withSecurity, withIsin, withAccount};
+ghost use Rattle.entries.specs.Entered.{withPaired, withPair, withIssuer, withInvestor, withLink};
+ghost use Rattle.entries.specs.Entered.{answered, left, EntersCsd, EntersSecurity};
+
+// One more; a table's count and a pair's account are below the largest u16, which stays as it is.
+fn one_more(n: u16) -> u16
+    ensures { λ r. ⌜ r ≡ oneMore n ⌝ }
+{
+    if n < 0xffff {
+        return n + 1;
+    }
+    n
+}
+
+// One row more in the table whose count stands there.
+fn count_on(index: &mut [u16; INDEX], count: usize)
+    ensures { λ _. ⌜ now (index .exit) ≡ withNumber (now (index .entry)) count (oneMore (numberAt (now (index .entry)) count)) ⌝ }
+{
+    let n = entry(index, count);
+    store(index, count, one_more(n));
+}
+
+// A CSD's numbers and bytes.
+pub fn add_csd(index: &mut [u16; INDEX], names: &mut [u8; NAMES], row: Csd)
+    ensures { λ _. ⌜ (now (index .exit) ≡ withCsd row (now (index .entry)))
+        × (now (names .exit) ≡ withBic row (numberAt (now (index .entry)) (placeOf csdCount)) (now (names .entry))) ⌝ }
+{
+    let n = entry(index, CSD_COUNT) as usize;
+    let bic = row.bic;
+    put_bytes(names, BIC * n, &bic);
+    store(index, TYPES + n, (row.external as u16) + 1);
+    count_on(index, CSD_COUNT);
+}
+
+// A security's.
+pub fn add_security(index: &mut [u16; INDEX], names: &mut [u8; NAMES], row: Security)
+    ensures { λ _. ⌜ (now (index .exit) ≡ withSecurity row (now (index .entry)))
+        × (now (names .exit) ≡ withIsin row (numberAt (now (index .entry)) (placeOf securityCount)) (now (names .entry))) ⌝ }
+{
+    let n = entry(index, SECURITY_COUNT) as usize;
+    let isin = row.isin;
+    put_bytes(names, ISINS + ISIN * n, &isin);
+    count_on(index, SECURITY_COUNT);
+}
+
+// An account's numbers.
+pub fn add_account(index: &mut [u16; INDEX], row: Account)
+    ensures { λ _. ⌜ now (index .exit) ≡ withAccount row (now (index .entry)) ⌝ }
+{
+    let n = entry(index, ACCOUNT_COUNT) as usize;
+    store(index, HOMES + n, (row.csd as u16) + 1);
+    store(index, KINDS + n, (row.kind as u16) + 1);
+    count_on(index, ACCOUNT_COUNT);
+}
+
+// The account is in a pair; hex FFFF never is.
+fn pair_account(index: &mut [u16; INDEX], account: u16)
+    ensures { λ _. ⌜ now (index .exit) ≡ withPaired account (now (index .entry)) ⌝ }
+{
+    if account == NO_ACCOUNT {
+        return;
+    }
+    store(index, PAIRED + (account as usize), 1);
+}
+
+// A pair's numbers.
+pub fn add_pair(index: &mut [u16; INDEX], row: Pair)
+    ensures { λ _. ⌜ now (index .exit) ≡ withPair row (now (index .entry)) ⌝ }
+{
+    let place = (row.investor as usize) * CSDS + (row.technical as usize);
+    store(index, MIRRORS + place, one_more(row.mirror));
+    store(index, OMNIBUSES + place, row.omnibus);
+    pair_account(index, row.mirror);
+    pair_account(index, row.omnibus);
+    count_on(index, PAIR_COUNT);
+}
+
+// An issuer link's numbers, at the place of its security and CSD.
+fn add_issuer(index: &mut [u16; INDEX], place: usize, row: Link)
+    requires { ⌜ place < 10_000 ⌝ }
+    ensures { λ _. ⌜ now (index .exit) ≡ withIssuer place row (now (index .entry)) ⌝ }
+{
+    store(index, ROUTES + place, ISSUER);
+    store(index, ISSUANCES + place, row.account);
+}
+
+// An investor link's numbers.
+fn add_investor(index: &mut [u16; INDEX], place: usize, row: Link)
+    requires { ⌜ place < 10_000 ⌝ }
+    ensures { λ _. ⌜ now (index .exit) ≡ withInvestor place row (now (index .entry)) ⌝ }
+{
+    if row.flag == 1 {
+        store(index, ROUTES + place, (row.technical as u16) + 1);
+    }
+    store(index, LINKED + (place * CSDS + (row.technical as usize)), 1);
+}
+
+// A link's numbers.
+pub fn add_link(index: &mut [u16; INDEX], row: Link)
+    ensures { λ _. ⌜ now (index .exit) ≡ withLink row (now (index .entry)) ⌝ }
+{
+    let place = (row.security as usize) * CSDS + (row.csd as usize);
+    if row.kind == 0 {
+        add_issuer(index, place, row);
+    } else {
+        add_investor(index, place, row);
+    }
+    count_on(index, LINK_COUNT);
+}
+
+// Command 01.
+pub fn enter_csd(index: &mut [u16; INDEX], names: &mut [u8; NAMES], row: Csd) -> Answer
+    ensures { λ r. ⌜ EntersCsd row (now (index .entry)) (now (names .entry)) r (now (index .exit)) (now (names .exit)) ⌝ }
+{
+    let refusal = csd_refusal(index, names, row);
+    if refusal != 0 {
+        return Answer::Refused(refusal);
+    }
+    add_csd(index, names, row);
+    Answer::Accepted
+}
+
+// Command 02.
+pub fn enter_security(index: &mut [u16; INDEX], names: &mut [u8; NAMES], row: Security) -> Answer
+    ensures { λ r. ⌜ EntersSecurity row (now (index .entry)) (now (names .entry)) r (now (index .exit)) (now (names .exit)) ⌝ }
+{
+    let refusal = security_refusal(index, names, row);
+    if refusal != 0 {
+        return Answer::Refused(refusal);
+    }
+    add_security(index, names, row);
+    Answer::Accepted
+}
+
+// Command 03.
+pub fn enter_account(index: &mut [u16; INDEX], row: Account) -> Answer
+    ensures answer { λ r. ⌜ r ≡ answered (accountRefusalIn (now (index .entry)) row) ⌝ }
+    ensures left { λ r. ⌜ now (index .exit) ≡ left (accountRefusalIn (now (index .entry)) row) (now (index .entry)) (withAccount row (now (index .entry))) ⌝ }
+{
+    let refusal = account_refusal(index, row);
+    if refusal != 0 {
+        return Answer::Refused(refusal);
+    }
+    add_account(index, row);
+    Answer::Accepted
+}
+
+// Command 04.
+pub fn enter_pair(index: &mut [u16; INDEX], row: Pair) -> Answer
+    ensures answer { λ r. ⌜ r ≡ answered (pairRefusalIn (now (index .entry)) row) ⌝ }
+    ensures left { λ r. ⌜ now (index .exit) ≡ left (pairRefusalIn (now (index .entry)) row) (now (index .entry)) (withPair row (now (index .entry))) ⌝ }
+{
+    let refusal = pair_refusal(index, row);
+    if refusal != 0 {
+        return Answer::Refused(refusal);
+    }
+    add_pair(index, row);
+    Answer::Accepted
+}
+
+// Command 05.
+pub fn enter_link(index: &mut [u16; INDEX], row: Link) -> Answer
+    ensures answer { λ r. ⌜ r ≡ answered (linkRefusalIn (now (index .entry)) row) ⌝ }
+    ensures left { λ r. ⌜ now (index .exit) ≡ left (linkRefusalIn (now (index .entry)) row) (now (index .entry)) (withLink row (now (index .entry))) ⌝ }
+{
+    let refusal = link_refusal(index, row);
+    if refusal != 0 {
+        return Answer::Refused(refusal);
+    }
+    add_link(index, row);
+    Answer::Accepted
+}

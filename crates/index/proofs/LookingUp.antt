@@ -1,0 +1,106 @@
+-- What a number of the index tells of CSDs, accounts and pairs, and that a sound directory has none of them beyond the index's places.
+use Prim.Native.Nat.{ℕ, zero, suc, _+_, _≤_, _<_}
+use mathlib.Core.Path.{_≡_, refl, sym, _∙_}
+use mathlib.Core.Logic.{_≢_, inl, inr}
+use mathlib.Core.Bool.{Bool, true, false, not}
+use mathlib.Core.List.{List, [], _∷_, List·Memᴰ}
+use mathlib.Core.Option.{Option, none, some}
+use native.Mathlib.Omega.{arith}
+use native.Mathlib.Decide.{decLt}
+use lib.Dec.{eqb, ltb}
+use lib.ListN.{length, getElem?}
+use Rattle.rules.specs.declared.Csd.{Csd}
+use Rattle.rules.specs.declared.Account.{Account}
+use Rattle.rules.specs.declared.Pair.{Pair}
+use Rattle.rules.specs.declared.Directory.{Directory}
+use Rattle.rules.specs.Tests.{any, isRow}
+use Rattle.rules.specs.Directory.{Rows, rowsOf, csdLimit, accountLimit, noAccount, typeIs, kindIs, csdIs, inBooks, uses, pairOf, isPaired}
+use Rattle.rules.proofs.Basics.{equal-tests, eqb-is, eqb-true, eqb-false, ltb-is, ltb-true, ltb-false, and-untrue, unnot, untrue, or-cases, none-any, eqb-not}
+use Rattle.rules.proofs.Facts.{Facts}
+use Rattle.rules.proofs.Accounts.{books-small}
+use Rattle.rules.proofs.Pairs.{found-pair, pair-cases}
+use Rattle.rules.proofs.Soundness.{sound-gives}
+use Rattle.index.proofs.Laws.{unknown}
+use Rattle.index.specs.Index.{Indexed, typeCode, homeCode, kindCode, flagCode}
+
+-- the facts of the directory whose index the list is
+pub facts : {ix : List ℕ} {d : Directory} → Indexed ix d → Facts (rowsOf d)
+facts {d = d} h = sound-gives d (h .soundBooks)
+
+-- ---- rows by number
+there : {A : Type 0} (l : List A) (i : ℕ) → i < length l → (x : A) × (getElem? l i ≡ some x)
+there [] i h = absurd (omega arith)
+there (x ∷ l) zero h = (x, refl)
+there (x ∷ l) (suc i) h = there l i (omega arith)
+
+-- a code that is 0 without a row alone tells whether there is one
+pub row-coded : {A : Type 0} (code : Option A → ℕ) → code none ≡ 0 → ((x : A) → 0 < code (some x)) → (l : List A) (i : ℕ)
+    → not (eqb (code (getElem? l i)) 0) ≡ isRow l i
+unfolding isRow
+row-coded code z p l i = go (decLt i (length l))
+  where
+    go : Dec (i < length l) → not (eqb (code (getElem? l i)) 0) ≡ ltb i (length l)
+    go (yes h) =
+        let x = there l i h in
+        rw (x .1, eqb-false (code (some (x .0))) 0 (omega (arith, p (x .0))), ltb-true i (length l) h)
+    go (no n) = rw (unknown l i (omega arith), z, ltb-false i (length l) (omega arith))
+
+-- ---- codes
+next-tests : (a b : ℕ) → eqb (a + 1) (b + 1) ≡ eqb a b
+next-tests a b =
+    equal-tests (eqb (a + 1) (b + 1)) (eqb a b)
+    (λ e. eqb-true a b (omega (arith, eqb-is (a + 1) (b + 1) e)))
+    (λ e. eqb-true (a + 1) (b + 1) (omega (arith, eqb-is a b e)))
+
+pub type-told : (o : Option Csd) → eqb (typeCode o) 2 ≡ typeIs 1 o
+type-told none = refl
+type-told (some x) = next-tests (x .external) 1
+
+pub books-told : (c : ℕ) (o : Option Account) → eqb (homeCode o) (c + 1) ≡ csdIs c o
+books-told c none = eqb-false 0 (c + 1) (omega arith)
+books-told c (some x) = next-tests (x .csd) c
+
+pub kind-told : (k : ℕ) (o : Option Account) → eqb (kindCode o) (k + 1) ≡ kindIs k o
+kind-told k none = eqb-false 0 (k + 1) (omega arith)
+kind-told k (some x) = next-tests (x .kind) k
+
+pub flag-told : (b : Bool) → not (eqb (flagCode b) 0) ≡ b
+flag-told true = refl
+flag-told false = refl
+
+module _ (r : Rows) (F : Facts r) where
+  pub csd-small : (c : ℕ) → isRow (r .csds) c ≡ true → c < csdLimit
+  unfolding isRow
+  csd-small c e = omega (arith, F .fewCsds, ltb-is c (length (r .csds)) e)
+
+  pub home-small : (a : ℕ) (x : Account) → getElem? (r .accounts) a ≡ some x → x .csd < csdLimit
+  unfolding inBooks
+  home-small a x e = csd-small (x .csd) (F .homeRow a (x .csd) (rw e (eqb-true (x .csd) (x .csd) refl)))
+
+  -- ---- pairs
+  -- an account beyond the table is in no pair
+  pub unpaired : (a : ℕ) → accountLimit ≤ a → isPaired (r .pairs) a ≡ false
+  unfolding isPaired
+  unpaired a l =
+      and-untrue (not (eqb a noAccount)) (any (uses a) (r .pairs))
+      (λ e. none-any (uses a) (r .pairs) (λ p m. untrue (uses a p) (λ u. never p m (eqb-not a noAccount (unnot (eqb a noAccount) e)) u)))
+    where
+      never : (p : Pair) → List·Memᴰ p (r .pairs) → a ≢ noAccount → uses a p ≡ true → ⊥
+      never p m n u =
+          elim (or-cases (eqb (p .mirror) a) (eqb (p .omnibus) a) u) [
+            | inl e ↦ omega (arith, eqb-is (p .mirror) a e, books-small r F (p .mirror) (p .investor) (F .pairs p m .mirrorBooks))
+            | inr e ↦ elim (pair-cases r p (F .pairs p m)) [
+              | inl h ↦ omega (arith, eqb-is (p .omnibus) a e, books-small r F (p .omnibus) (p .technical) (h .omnibusBooks))
+              | inr h ↦ n (sym (eqb-is (p .omnibus) a e) ∙ h .alone)
+            ]
+          ]
+
+  -- CSDs beyond the table have no pair
+  pub unjoined : (i t : ℕ) → (i < csdLimit → t < csdLimit → ⊥) → pairOf (r .pairs) i t ≡ none
+  unjoined i t n = go (pairOf (r .pairs) i t) refl
+    where
+      go : (o : Option Pair) → pairOf (r .pairs) i t ≡ o → o ≡ none
+      go none e = refl
+      go (some p) e =
+          let f = found-pair (r .pairs) i t p e in
+          absurd (n (rw (f .1) at (csd-small (p .investor) (F .pairs p (f .0) .investorRow))) (rw (f .2) at (csd-small (p .technical) (F .pairs p (f .0) .technicalRow))))

@@ -1,0 +1,5 @@
+pub mod Hops
+pub mod Paths
+pub mod Meeting
+pub mod Walking
+pub mod Routing

@@ -1,0 +1,156 @@
+-- Case by case: the walks are those of the definition, and the tests are its tests.
+use mathlib.Core.Path.{sym, _∙_}
+use Rattle.walks.specs.Walks.{walkOf}
+use Rattle.walks.proofs.Routing.{unmet, same-csd, walks-meet, reaches, reaches-back, ends-judged}
+use Rattle.index.specs.Asked.{asked}
+use borrow.Author.Needs.{needs}
+use Rattle.walks.proofs.routes.route_of.Statement.{statement}
+use Rattle.walks.proofs.routes.route_of.Tie as tie
+
+alone-requires : tie.Need-alone-requires
+alone-requires c κs = search needs
+
+alone-requires-2 : tie.Need-alone-requires-2
+alone-requires-2 c κs = search needs
+
+joined-requires : tie.Need-joined-requires
+joined-requires c κs = search needs
+
+returns : tie.Need-returns
+returns c =
+    let a = c .before .before .before .before .args in
+    c .joined .ensures ∙ rw (c .before .before .alone .ensures, c .before .alone2 .ensures) (same-csd (asked (a .index .now)) (a .security) (a .from) (a .to) (c .before .before .before .if1 .taken))
+
+default-walk-requires : tie.Need-default-walk-requires
+default-walk-requires c κs = search needs
+
+default-walk-requires-2 : tie.Need-default-walk-requires-2
+default-walk-requires-2 c κs = search needs
+
+shared-csds-requires : tie.Need-shared-csds-requires
+shared-csds-requires c κs = search needs
+
+sub-without-last : tie.Need-sub-without-last
+sub-without-last c = search needs
+
+without-last-requires : tie.Need-without-last-requires
+without-last-requires c κs = search needs
+
+sub-without-last-2 : tie.Need-sub-without-last-2
+sub-without-last-2 c = search needs
+
+without-last-requires-2 : tie.Need-without-last-requires-2
+without-last-requires-2 c κs = search needs
+
+joined-requires-2 : tie.Need-joined-requires-2
+joined-requires-2 c κs = search needs
+
+returns-2 : tie.Need-returns-2
+returns-2 c =
+    let u = c .before .before .before .before in
+    let w = u .before .before .default-walk in
+    let v = u .before .default-walk2 in
+    let a = u .before .before .before .before .args in
+    let meets = u .shared-csds .ensures (asked (a .index .now)) (a .security) (a .from) (a .to) (w .ensures) (v .ensures) in
+    c .joined2 .ensures ∙ rw (c .before .before .without-last .ensures, c .before .without-last2 .ensures) (walks-meet (asked (a .index .now)) (a .security) (a .from) (a .to)
+    (u .before .before .before .if1 .left) (walkOf (w .result)) (walkOf (v .result)) (w .ensures) (v .ensures) _ (c .before .before .before .if2 .taken) meets)
+
+directed-walk-requires : tie.Need-directed-walk-requires
+directed-walk-requires c κs = search needs
+
+has-reached-requires : tie.Need-has-reached-requires
+has-reached-requires c κs = search needs
+
+alone-requires-3 : tie.Need-alone-requires-3
+alone-requires-3 c κs = search needs
+
+joined-requires-3 : tie.Need-joined-requires-3
+joined-requires-3 c κs = search needs
+
+returns-3 : tie.Need-returns-3
+returns-3 c =
+    let u = c .before .before .before .before .before .before in
+    let w = u .before .before .default-walk in
+    let v = u .before .default-walk2 in
+    let a = u .before .before .before .before .args in
+    let meets = u .shared-csds .ensures (asked (a .index .now)) (a .security) (a .from) (a .to) (w .ensures) (v .ensures) in
+    let x = c .before .before .before .before .directed-walk in
+    let apart = unmet (u .shared-csds .result) (asked (a .index .now)) (walkOf (w .result)) (walkOf (v .result)) (c .before .before .before .before .before .if2 .left) meets in
+    c .joined3 .ensures ∙ rw (c .before .alone3 .ensures) (reaches (asked (a .index .now)) (a .security) (a .from) (a .to)
+    (u .before .before .before .if1 .left) (walkOf (w .result)) (walkOf (v .result)) (w .ensures) (v .ensures) apart
+    (walkOf (x .result)) (x .ensures) (sym (c .before .before .before .has-reached .ensures) ∙ c .before .before .if3 .taken))
+
+directed-walk-requires-2 : tie.Need-directed-walk-requires-2
+directed-walk-requires-2 c κs = search needs
+
+has-reached-requires-2 : tie.Need-has-reached-requires-2
+has-reached-requires-2 c κs = search needs
+
+alone-requires-4 : tie.Need-alone-requires-4
+alone-requires-4 c κs = search needs
+
+joined-requires-4 : tie.Need-joined-requires-4
+joined-requires-4 c κs = search needs
+
+returns-4 : tie.Need-returns-4
+returns-4 c =
+    let u = c .before .before .before .before .before .before .before .before .before in
+    let w = u .before .before .default-walk in
+    let v = u .before .default-walk2 in
+    let a = u .before .before .before .before .args in
+    let meets = u .shared-csds .ensures (asked (a .index .now)) (a .security) (a .from) (a .to) (w .ensures) (v .ensures) in
+    let x = c .before .before .before .before .before .before .before .directed-walk in
+    let y = c .before .before .before .before .directed-walk2 in
+    let apart = unmet (u .shared-csds .result) (asked (a .index .now)) (walkOf (w .result)) (walkOf (v .result)) (c .before .before .before .before .before .before .before .before .if2 .left) meets in
+    c .joined4 .ensures ∙ rw (c .before .alone4 .ensures) (reaches-back (asked (a .index .now)) (a .security) (a .from) (a .to)
+    (u .before .before .before .if1 .left) (walkOf (w .result)) (walkOf (v .result)) (w .ensures) (v .ensures) apart
+    (walkOf (x .result)) (x .ensures) (sym (c .before .before .before .before .before .before .has-reached .ensures) ∙ c .before .before .before .before .before .if3 .left)
+    (walkOf (y .result)) (y .ensures) (sym (c .before .before .before .has-reached2 .ensures) ∙ c .before .before .if4 .taken))
+
+by-ends-requires : tie.Need-by-ends-requires
+by-ends-requires c κs = search needs
+
+returns-5 : tie.Need-returns-5
+returns-5 c =
+    let u = c .before .before .before .before .before .before .before .before in
+    let w = u .before .before .default-walk in
+    let v = u .before .default-walk2 in
+    let a = u .before .before .before .before .args in
+    let meets = u .shared-csds .ensures (asked (a .index .now)) (a .security) (a .from) (a .to) (w .ensures) (v .ensures) in
+    let x = c .before .before .before .before .before .before .directed-walk in
+    let y = c .before .before .before .directed-walk2 in
+    let apart = unmet (u .shared-csds .result) (asked (a .index .now)) (walkOf (w .result)) (walkOf (v .result)) (c .before .before .before .before .before .before .before .if2 .left) meets in
+    c .by-ends .ensures ∙ ends-judged (asked (a .index .now)) (a .security) (a .from) (a .to)
+    (u .before .before .before .if1 .left) (walkOf (w .result)) (walkOf (v .result)) (w .ensures) (v .ensures) apart
+    (walkOf (x .result)) (x .ensures) (sym (c .before .before .before .before .before .has-reached .ensures) ∙ c .before .before .before .before .if3 .left)
+    (walkOf (y .result)) (y .ensures) (sym (c .before .before .has-reached2 .ensures) ∙ c .before .if4 .left)
+
+pub route-of-spec : {M : Type 1} → statement M
+route-of-spec =
+    tie.close
+    (tie.spec
+    alone-requires
+    alone-requires-2
+    joined-requires
+    returns
+    default-walk-requires
+    default-walk-requires-2
+    shared-csds-requires
+    sub-without-last
+    without-last-requires
+    sub-without-last-2
+    without-last-requires-2
+    joined-requires-2
+    returns-2
+    directed-walk-requires
+    has-reached-requires
+    alone-requires-3
+    joined-requires-3
+    returns-3
+    directed-walk-requires-2
+    has-reached-requires-2
+    alone-requires-4
+    joined-requires-4
+    returns-4
+    by-ends-requires
+    returns-5)

@@ -1,0 +1,3 @@
+pub mod Sides
+pub mod Walks
+pub mod Routes

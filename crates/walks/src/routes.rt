@@ -1,0 +1,133 @@
+// The CSDs of a chain: how its two sides join, and the CSDs that each names.
+use crate::ends::has_arrived;
+use crate::ends::has_reached;
+use crate::ends::judge;
+use crate::sides::Side;
+use crate::sides::alone;
+use crate::sides::length_of;
+use crate::sides::without_last;
+use crate::walks::Walk;
+use crate::walks::default_walk;
+use crate::walks::directed_walk;
+use index::places::INDEX;
+use rules::Join;
+use rules::Verdict;
+use rules::WalkEnd;
+ghost use mathlib.Core.Path.{_≡_};
+ghost use Rattle.rules.specs.Chain.{judged, joinedBy, route};
+ghost use Rattle.rules.specs.Chain.Route.{sides};
+ghost use Rattle.index.specs.Asked.{asked};
+ghost use Rattle.walks.specs.Sides.{named};
+ghost use Rattle.walks.specs.Routes.{CommonEnd, Meets, routeOf};
+
+// How the sides join and the CSDs that they name; or the number that refuses the chain, 0 where there is one.
+pub struct RouteFound {
+    pub refusal: u8,
+    pub join: Join,
+    pub delivering: Side,
+    pub receiving: Side,
+}
+
+pub fn joined(join: Join, delivering: Side, receiving: Side) -> RouteFound
+    ensures { λ r. ⌜ routeOf r ≡ sides join (named delivering) (named receiving) ⌝ }
+{
+    RouteFound {
+        refusal: 0,
+        join,
+        delivering,
+        receiving,
+    }
+}
+
+// Two walks joined as their ends allow, or the refusal.
+pub fn by_ends(delivering: Walk, receiving: Walk) -> RouteFound
+    ensures { λ r. ⌜ routeOf r ≡ joinedBy (judged (delivering .end) (receiving .end)) (named (delivering .side)) (named (receiving .side)) ⌝ }
+{
+    let up = delivering.end;
+    let down = receiving.end;
+    match judge(up, down) {
+        Verdict::TwoIssuers => joined(Join::Issuers, delivering.side, receiving.side),
+        Verdict::TwoExternals => joined(Join::Externals, delivering.side, receiving.side),
+        Verdict::Apart(refusal) => RouteFound {
+            refusal,
+            join: Join::Meeting,
+            delivering: alone(0),
+            receiving: alone(0),
+        },
+    }
+}
+
+// How many CSDs two sides have in common at their ends.
+fn common_end(delivering: Side, receiving: Side) -> usize
+    ensures { λ r. ⌜ CommonEnd (named delivering) (named receiving) r ⌝ }
+{
+    let up = delivering.csds;
+    let down = receiving.csds;
+    let m = length_of(delivering);
+    let n = length_of(receiving);
+    let mut k: usize = 0;
+    while k < m {
+        if n <= k {
+            return k;
+        }
+        if up[m - k - 1] != down[n - k - 1] {
+            return k;
+        }
+        k += 1;
+    }
+    k
+}
+
+// How many CSDs two default walks share, the first of them in T2S, if both end inside or outside; else 0. Walks that share a CSD go the same way from there
+// on, so that they share the CSDs at their ends.
+fn shared_csds(delivering: Walk, receiving: Walk) -> usize
+    ensures { λ r. ⌜ Meets delivering receiving r ⌝ }
+{
+    let up = delivering.end;
+    let down = receiving.end;
+    if !has_arrived(down) {
+        return 0;
+    }
+    let shared = common_end(delivering.side, receiving.side);
+    match up {
+        WalkEnd::Inside(_) => shared,
+        WalkEnd::Outside(_) => {
+            if shared == 1 {
+                return 0;
+            }
+            shared
+        }
+        WalkEnd::NoLink => 0,
+        WalkEnd::TooLong => 0,
+    }
+}
+
+// The four cases of document 01, from the delivering CSD to the receiving one.
+pub fn route_of(index: &[u16; INDEX], security: u8, from: u8, to: u8) -> RouteFound
+    ensures { λ r. ⌜ routeOf r ≡ route (asked (now (index .entry))) security from to ⌝ }
+{
+    if from == to {
+        return joined(Join::Meeting, alone(from), alone(to));
+    }
+    let delivering = default_walk(index, security, from);
+    let receiving = default_walk(index, security, to);
+    let shared = shared_csds(delivering, receiving);
+    if 0 < shared {
+        return joined(
+            Join::Meeting,
+            without_last(delivering.side, shared - 1),
+            without_last(receiving.side, shared - 1),
+        );
+    }
+    let towards = directed_walk(index, security, to, from);
+    let end = towards.end;
+    if has_reached(to, end) {
+        return joined(Join::Meeting, towards.side, alone(to));
+    }
+    let back = directed_walk(index, security, from, to);
+    let end = back.end;
+    if has_reached(from, end) {
+        return joined(Join::Meeting, alone(from), back.side);
+    }
+    by_ends(delivering, receiving)
+}
