@@ -1,6 +1,6 @@
 -- 3 and 4 with the directory read: where it is read to its end it is sound, and what was read is kept of it.
 use Prim.Native.Nat.{ℕ}
-use mathlib.Core.Path.{_≡_, refl, sym, ap, _∙_, subst}
+use mathlib.Core.Path.{_≡_, refl, sym, ap, _∙_}
 use mathlib.Core.Bool.{Bool, true, false}
 use mathlib.Core.List.{List}
 use lib.ListN.{replicate}
@@ -9,10 +9,10 @@ use Rattle.rules.specs.declared.Directory.{Directory}
 use Rattle.rules.specs.Entries.{sound}
 use Rattle.index.specs.Index.{indexSize, WholeTables}
 use Rattle.entries.specs.Names.{namesSize}
-use Rattle.entries.specs.Entered.{Kept, Keeps}
+use Rattle.entries.specs.Entered.{Kept}
 use Rattle.reading.specs.Read.{Reads, readDirectory, kept, nothingKept}
 use Rattle.reading.proofs.Sounds.{reading-sounds}
-use Rattle.desk.specs.Outcomes.{early, Admits}
+use Rattle.desk.specs.Outcomes.{Admits}
 use Rattle.desk.proofs.Before.{early-unsound, early-none}
 
 -- lists of zeros

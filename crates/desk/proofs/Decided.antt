@@ -30,12 +30,12 @@ use Rattle.index.specs.Asked.{asked}
 use Rattle.index.proofs.Answers.{answers}
 use Rattle.entries.specs.Entered.{Kept, Keeps}
 use Rattle.chain.specs.StepList.{stepNumbers, stepsIn}
-use Rattle.chain.specs.Derivation.{Derived, derived, derivedInto, Derives}
+use Rattle.chain.specs.Derivation.{derived, derivedInto, Derives}
 use Rattle.chain.proofs.StepList.{steps-counted}
 use Rattle.chain.proofs.Deriving.{derived-fits, outcomeOf, core-derives}
 use Rattle.booking.specs.Moves.{moveOutcome}
 use Rattle.booking.specs.Payments.{payOutcome}
-use Rattle.booking.specs.Settling.{SettleOutcome, settleOutcome, settleInto, Settles}
+use Rattle.booking.specs.Settling.{settleOutcome, settleInto, Settles}
 use Rattle.booking.proofs.Calls.{movedOn, core-moves, paidOn, core-pays, settledOn, core-settles}
 use Rattle.booking.proofs.Settled.{settle-fits}
 use Rattle.desk.specs.Outcomes.{holding, early, Admits, movementOn, paymentOn, settlementOn, derivationOn, blanks, byValue, refusal, replyOf}

@@ -11,15 +11,11 @@ use Rattle.rules.specs.Tests.{lowest}
 use Rattle.rules.specs.Directory.{rowsOf}
 use Rattle.rules.specs.Entries.{Row, rowConditions, addRow}
 use Rattle.rules.specs.Calls.{Store, Outcome, enter, outcome, misfit, core}
-use Rattle.rules.proofs.Tables.{Sized, Room, room}
-use Rattle.index.specs.Index.{WholeTables}
+use Rattle.rules.proofs.Tables.{Room, room}
 use Rattle.entries.specs.Entered.{Kept, refusalIn}
 use Rattle.entries.proofs.Refusing.{refusal-is}
 use Rattle.desk.specs.Outcomes.{holding, enteredOn, Admits}
 use Rattle.desk.proofs.Before.{early-refused, early-passed}
-
-sized : (d : Directory) → WholeTables d → Sized d
-sized d w = record { csds = w .csds; securities = w .securities; accounts = w .accounts; pairs = w .pairs; links = w .links }
 
 module _ (d : Directory) (x : Row) where
   abbrev said : Outcome → Entered
@@ -49,7 +45,9 @@ module _ (d : Directory) (x : Row) where
       refuses ne = refused-by m ne ∙ passed
 
       pub roomy : m ≡ 0 → Room x d
-      roomy e = room x d (sized d (admits .keeps z .indexed .whole)) (sym number ∙ e)
+      roomy e =
+          let w = admits .keeps z .indexed .whole in
+          room x d (record { csds = w .csds; securities = w .securities; accounts = w .accounts; pairs = w .pairs; links = w .links }) (sym number ∙ e)
 
       pub accepts : m ≡ 0 → record { answer = Accepted; directory = addRow x d } ≡ enteredOn d x
       accepts e = rw (← passed, e)

@@ -16,17 +16,14 @@ use rules::SecurityTotal;
 use wire::operands;
 ghost use mathlib.Core.Path.{_≡_};
 ghost use Prim.Native.Nat.{_+_, _<_};
-ghost use mathlib.Core.Bool.{not, cond};
-ghost use lib.Dec.{eqb};
 ghost use lib.ListN.{length};
-ghost use Rattle.rules.specs.Calls.{desk, deskSecurityTotal, deskCashTotal};
+ghost use Rattle.rules.specs.Calls.{desk};
 ghost use Rattle.rules.specs.Stream.{transcript};
 ghost use Rattle.probe.specs.Codes.{capped, codeOf};
 ghost use Rattle.stream.specs.Printed.{Printed};
-ghost use Rattle.desk.specs.Outcomes.{holding, enteredOn, replyOf};
-ghost use Rattle.probe.specs.Layout.{stepsLength, directoryIn, countsOf, bytesOf, bytesOfSteps, filled};
-ghost use Rattle.probe.specs.Exports.{misfit, fits, fitsSteps, fitsSum, rowOf, moveOf, enters, moves, settles, derives};
-ghost use Rattle.probe.specs.Exports.{unitsCode, unitsLeft, centsCode, centsLeft};
+ghost use Rattle.desk.specs.Outcomes.{holding, enteredOn};
+ghost use Rattle.probe.specs.Layout.{stepsLength, bytesOfSteps, filled};
+ghost use Rattle.probe.specs.Exports.{rowOf, moveOf, Enters, Moves, Settles, Derives, TotalsUnits, TotalsCents};
 
 // The buffers do not fit.
 const MISFIT: u64 = 1280;
@@ -70,9 +67,7 @@ fn entry(directory: Directory, tag: u8, bytes: &[u8]) -> Entered
 // 01 to 05, where any other byte counts as 05: the counts and rows become those of the directory after it.
 #[no_mangle]
 pub extern "C" fn fluzzam_enter(counts: &mut [usize], rows: &mut [u8], tag: u8, bytes: &[u8]) -> u64
-    ensures { λ r. ⌜ (r ≡ cond (fits (now (counts .entry)) (now (rows .entry))) (codeOf (enters (now (counts .entry)) (now (rows .entry)) tag (now (bytes .entry)) .answer)) misfit)
-        × (now (counts .exit) ≡ cond (fits (now (counts .entry)) (now (rows .entry))) (countsOf (enters (now (counts .entry)) (now (rows .entry)) tag (now (bytes .entry)) .directory)) (now (counts .entry)))
-        × (now (rows .exit) ≡ cond (fits (now (counts .entry)) (now (rows .entry))) (bytesOf (enters (now (counts .entry)) (now (rows .entry)) tag (now (bytes .entry)) .directory)) (now (rows .entry))) ⌝ }
+    ensures { λ r. ⌜ Enters (now (counts .entry)) (now (rows .entry)) tag (now (bytes .entry)) r (now (counts .exit)) (now (rows .exit)) ⌝ }
 {
     if counts.len() != COUNTS {
         return MISFIT;
@@ -124,9 +119,8 @@ pub extern "C" fn fluzzam_move(
     tag: u8,
     bytes: &[u8],
 ) -> u64
-    ensures { λ r. ⌜ (r ≡ cond (fits (now (counts .entry)) (now (rows .entry))) (codeOf (moves (now (counts .entry)) (now (rows .entry)) (now (positions .entry)) (now (cash .entry)) tag (now (bytes .entry)) .answer)) misfit)
-        × (now (positions .exit) ≡ cond (fits (now (counts .entry)) (now (rows .entry))) (moves (now (counts .entry)) (now (rows .entry)) (now (positions .entry)) (now (cash .entry)) tag (now (bytes .entry)) .store .positions) (now (positions .entry)))
-        × (now (cash .exit) ≡ cond (fits (now (counts .entry)) (now (rows .entry))) (moves (now (counts .entry)) (now (rows .entry)) (now (positions .entry)) (now (cash .entry)) tag (now (bytes .entry)) .store .cash) (now (cash .entry))) ⌝ }
+    ensures { λ r. ⌜ Moves (now (counts .entry)) (now (rows .entry)) (now (positions .entry)) (now (cash .entry)) tag (now (bytes .entry))
+        r (now (positions .exit)) (now (cash .exit)) ⌝ }
 {
     if counts.len() != COUNTS {
         return MISFIT;
@@ -157,10 +151,8 @@ pub extern "C" fn fluzzam_settle(
     bytes: &[u8],
     steps: &mut [u8],
 ) -> u64
-    ensures { λ r. ⌜ (r ≡ cond (fitsSteps (now (counts .entry)) (now (rows .entry)) (now (steps .entry))) (codeOf (settles (now (counts .entry)) (now (rows .entry)) (now (positions .entry)) (now (cash .entry)) lent (now (bytes .entry)) .answer)) misfit)
-        × (now (positions .exit) ≡ cond (fitsSteps (now (counts .entry)) (now (rows .entry)) (now (steps .entry))) (settles (now (counts .entry)) (now (rows .entry)) (now (positions .entry)) (now (cash .entry)) lent (now (bytes .entry)) .store .positions) (now (positions .entry)))
-        × (now (cash .exit) ≡ cond (fitsSteps (now (counts .entry)) (now (rows .entry)) (now (steps .entry))) (settles (now (counts .entry)) (now (rows .entry)) (now (positions .entry)) (now (cash .entry)) lent (now (bytes .entry)) .store .cash) (now (cash .entry)))
-        × (now (steps .exit) ≡ cond (fitsSteps (now (counts .entry)) (now (rows .entry)) (now (steps .entry))) (bytesOfSteps (replyOf (settles (now (counts .entry)) (now (rows .entry)) (now (positions .entry)) (now (cash .entry)) lent (now (bytes .entry))) .steps)) (now (steps .entry))) ⌝ }
+    ensures { λ r. ⌜ Settles (now (counts .entry)) (now (rows .entry)) (now (positions .entry)) (now (cash .entry)) lent (now (bytes .entry)) (now (steps .entry))
+        r (now (positions .exit)) (now (cash .exit)) (now (steps .exit)) ⌝ }
 {
     if counts.len() != COUNTS {
         return MISFIT;
@@ -187,8 +179,7 @@ pub extern "C" fn fluzzam_derive(
     bytes: &[u8],
     steps: &mut [u8],
 ) -> u64
-    ensures { λ r. ⌜ (r ≡ cond (fitsSteps (now (counts .entry)) (now (rows .entry)) (now (steps .entry))) (codeOf (derives (now (counts .entry)) (now (rows .entry)) lent (now (bytes .entry)) .answer)) misfit)
-        × (now (steps .exit) ≡ cond (fitsSteps (now (counts .entry)) (now (rows .entry)) (now (steps .entry))) (bytesOfSteps (replyOf (derives (now (counts .entry)) (now (rows .entry)) lent (now (bytes .entry))) .steps)) (now (steps .entry))) ⌝ }
+    ensures { λ r. ⌜ Derives (now (counts .entry)) (now (rows .entry)) lent (now (bytes .entry)) (now (steps .entry)) r (now (steps .exit)) ⌝ }
 {
     if counts.len() != COUNTS {
         return MISFIT;
@@ -215,8 +206,7 @@ pub extern "C" fn fluzzam_security_total(
     security: u8,
     sum: &mut [i64],
 ) -> u64
-    ensures { λ r. ⌜ (r ≡ cond (fitsSum (now (counts .entry)) (now (rows .entry)) (now (sum .entry))) (unitsCode (deskSecurityTotal (directoryIn (now (counts .entry)) (now (rows .entry))) (now (positions .entry)) security)) misfit)
-        × (now (sum .exit) ≡ cond (fitsSum (now (counts .entry)) (now (rows .entry)) (now (sum .entry))) (unitsLeft (deskSecurityTotal (directoryIn (now (counts .entry)) (now (rows .entry))) (now (positions .entry)) security) (now (sum .entry))) (now (sum .entry))) ⌝ }
+    ensures { λ r. ⌜ TotalsUnits (now (counts .entry)) (now (rows .entry)) (now (positions .entry)) security (now (sum .entry)) r (now (sum .exit)) ⌝ }
 {
     if counts.len() != COUNTS {
         return MISFIT;
@@ -241,8 +231,7 @@ pub extern "C" fn fluzzam_security_total(
 // The total of cash, likewise.
 #[no_mangle]
 pub extern "C" fn fluzzam_cash_total(cash: &[i64], sum: &mut [i64]) -> u64
-    ensures { λ r. ⌜ (r ≡ cond (not (eqb (length (now (sum .entry))) 0)) (centsCode (deskCashTotal (now (cash .entry)))) misfit)
-        × (now (sum .exit) ≡ cond (not (eqb (length (now (sum .entry))) 0)) (centsLeft (deskCashTotal (now (cash .entry))) (now (sum .entry))) (now (sum .entry))) ⌝ }
+    ensures { λ r. ⌜ TotalsCents (now (cash .entry)) (now (sum .entry)) r (now (sum .exit)) ⌝ }
 {
     if sum.len() == 0 {
         return MISFIT;

@@ -3,10 +3,12 @@
 use rules::ACCOUNTS;
 use rules::Account;
 use rules::AccountTable;
+use rules::BIC;
 use rules::CSDS;
 use rules::Csd;
 use rules::CsdTable;
 use rules::Directory;
+use rules::ISIN;
 use rules::LINKS;
 use rules::Link;
 use rules::LinkTable;
@@ -27,7 +29,8 @@ ghost use Rattle.probe.specs.Layout.{csdWidth, securityWidth, accountWid
 ghost use Rattle.probe.specs.Layout.{csdsStart, securitiesStart, accountsStart, pairsStart, linksStart, countsLength, rowsLength, stepsLength};
 ghost use Rattle.probe.specs.Layout.{csdsIn, securitiesIn, accountsIn, pairsIn, linksIn, directoryIn};
 ghost use Rattle.probe.specs.Layout.{csdBytes, securityBytes, accountBytes, pairBytes, linkBytes, stepBytes};
-ghost use Rattle.probe.specs.Layout.{bytesOfCsds, bytesOfSecurities, bytesOfAccounts, bytesOfPairs, bytesOfLinks, bytesOfSteps, bytesOf, countsOf, filled, Put};
+ghost use Rattle.probe.specs.Layout.{bytesOfCsds, bytesOfSecurities, bytesOfAccounts, bytesOfPairs, bytesOfLinks, bytesOfSteps, bytesOf};
+ghost use Rattle.probe.specs.Layout.{countsOf, filled, Put};
 
 // Bytes of a row of each table, and of a step.
 const CSD_WIDTH: usize = 12;
@@ -83,7 +86,7 @@ fn within(at: usize, length: usize) -> usize
 fn read_csds(count: usize, bytes: &[u8]) -> CsdTable
     ensures { λ r. ⌜ r ≡ csdsIn count (now (bytes .entry)) ⌝ }
 {
-    let bic = [0u8; 11];
+    let bic = [0u8; BIC];
     let mut rows = [Csd { external: 0, bic }; CSDS];
     let mut i: usize = 0;
     while i < CSDS {
@@ -97,7 +100,7 @@ fn read_csds(count: usize, bytes: &[u8]) -> CsdTable
 fn read_securities(count: usize, bytes: &[u8]) -> SecurityTable
     ensures { λ r. ⌜ r ≡ securitiesIn count (now (bytes .entry)) ⌝ }
 {
-    let isin = [0u8; 12];
+    let isin = [0u8; ISIN];
     let mut rows = [Security { isin }; SECURITIES];
     let mut i: usize = 0;
     while i < SECURITIES {

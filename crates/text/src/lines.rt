@@ -6,6 +6,7 @@ use crate::pieces::put_signed;
 use crate::pieces::put_word;
 use rules::Answer;
 use rules::Cents;
+use rules::ISIN;
 use rules::Step;
 use rules::Units;
 ghost use mathlib.Core.Path.{_≡_};
@@ -118,7 +119,7 @@ pub fn put_line(out: &mut [u8], at: usize, number: u64, answer: Answer) -> usize
 }
 
 // "per security `total`, ISIN, sum of participant positions"
-pub fn put_total(out: &mut [u8], at: usize, isin: [u8; 12], sum: Units) -> usize
+pub fn put_total(out: &mut [u8], at: usize, isin: [u8; ISIN], sum: Units) -> usize
     ensures { λ r. ⌜ Appended (now (out .entry)) at (now (out .exit)) r (totalLine isin sum) ⌝ }
 {
     let a = put_word(out, at, b"total ");

@@ -1,8 +1,10 @@
 // Operands, "big-endian of fixed widths". A decoder is handed the part of the input that starts at its command's operands; a byte that the part
 // does not have reads as 0.
 use rules::Account;
+use rules::BIC;
 use rules::Csd;
 use rules::Half;
+use rules::ISIN;
 use rules::Link;
 use rules::Pair;
 use rules::Security;
@@ -118,7 +120,7 @@ pub fn decode_csd(operands: &[u8]) -> Csd
     ensures { λ r. ⌜ r ≡ csdIn (now (operands .entry)) ⌝ }
 {
     let external = one_byte(operands, 0);
-    let mut bic = [0u8; 11];
+    let mut bic = [0u8; BIC];
     copy_bytes(operands, 1, &mut bic);
     Csd { external, bic }
 }
@@ -127,7 +129,7 @@ pub fn decode_csd(operands: &[u8]) -> Csd
 pub fn decode_security(operands: &[u8]) -> Security
     ensures { λ r. ⌜ r ≡ securityIn (now (operands .entry)) ⌝ }
 {
-    let mut isin = [0u8; 12];
+    let mut isin = [0u8; ISIN];
     copy_bytes(operands, 0, &mut isin);
     Security { isin: isin }
 }

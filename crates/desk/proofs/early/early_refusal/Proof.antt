@@ -8,8 +8,6 @@ use Rattle.index.specs.Index.{WholeTables}
 use Rattle.desk.proofs.Admitted.{misfitting, unsound, admitted}
 use Rattle.desk.proofs.early.early_refusal.Statement.{statement}
 use Rattle.desk.proofs.early.early_refusal.Tie as tie
-use Rattle.desk.proofs.early.early_refusal.Reads as reads
-use Rattle.desk.proofs.early.early_refusal.Lts as lts
 
 returns : tie.Need-returns
 returns c = misfitting _ _ _ (c .if1 .taken)

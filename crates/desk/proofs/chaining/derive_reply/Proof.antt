@@ -3,8 +3,8 @@ use borrow.Author.Needs.{needs}
 use mathlib.Core.Path.{_∙_}
 use Rattle.desk.proofs.Admitted.{nothing-kept}
 use Rattle.desk.proofs.Decided.{derivation-refused, derivation-few, derivation-passed}
-use Rattle.desk.proofs.derive_reply.Statement.{statement}
-use Rattle.desk.proofs.derive_reply.Tie as tie
+use Rattle.desk.proofs.chaining.derive_reply.Statement.{statement}
+use Rattle.desk.proofs.chaining.derive_reply.Tie as tie
 
 early-refusal-requires : tie.Need-early-refusal-requires
 early-refusal-requires c κs = nothing-kept

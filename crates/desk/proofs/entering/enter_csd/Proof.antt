@@ -4,8 +4,8 @@ use mathlib.Core.Path.{_∙_}
 use Rattle.rules.specs.Entries.{csdRow}
 use Rattle.desk.proofs.Admitted.{nothing-kept}
 use Rattle.desk.proofs.Entries.{unsound, refuses, roomy, accepts}
-use Rattle.desk.proofs.enter_csd.Statement.{statement}
-use Rattle.desk.proofs.enter_csd.Tie as tie
+use Rattle.desk.proofs.entering.enter_csd.Statement.{statement}
+use Rattle.desk.proofs.entering.enter_csd.Tie as tie
 
 early-refusal-requires : tie.Need-early-refusal-requires
 early-refusal-requires c κs = nothing-kept

@@ -4,8 +4,8 @@ use denote.Ref.{now}
 use Rattle.booking.specs.Moves.{wayOf}
 use Rattle.desk.proofs.Admitted.{nothing-kept}
 use Rattle.desk.proofs.Decided.{payment-refused, payment-passed}
-use Rattle.desk.proofs.payment.Statement.{statement}
-use Rattle.desk.proofs.payment.Tie as tie
+use Rattle.desk.proofs.moving.payment.Statement.{statement}
+use Rattle.desk.proofs.moving.payment.Tie as tie
 
 early-refusal-requires : tie.Need-early-refusal-requires
 early-refusal-requires c κs = nothing-kept

@@ -4,8 +4,8 @@ use denote.Ref.{now}
 use Rattle.booking.specs.Moves.{wayOf}
 use Rattle.desk.proofs.Admitted.{nothing-kept}
 use Rattle.desk.proofs.Decided.{movement-refused, movement-passed}
-use Rattle.desk.proofs.movement.Statement.{statement}
-use Rattle.desk.proofs.movement.Tie as tie
+use Rattle.desk.proofs.moving.movement.Statement.{statement}
+use Rattle.desk.proofs.moving.movement.Tie as tie
 
 early-refusal-requires : tie.Need-early-refusal-requires
 early-refusal-requires c κs = nothing-kept

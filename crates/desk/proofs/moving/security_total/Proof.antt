@@ -4,8 +4,8 @@ use mathlib.Core.Path.{_∙_}
 use denote.Ref.{now}
 use Rattle.desk.proofs.Admitted.{nothing-kept}
 use Rattle.desk.proofs.Decided.{total-refused, total-passed}
-use Rattle.desk.proofs.security_total.Statement.{statement}
-use Rattle.desk.proofs.security_total.Tie as tie
+use Rattle.desk.proofs.moving.security_total.Statement.{statement}
+use Rattle.desk.proofs.moving.security_total.Tie as tie
 
 early-refusal-requires : tie.Need-early-refusal-requires
 early-refusal-requires c κs = nothing-kept

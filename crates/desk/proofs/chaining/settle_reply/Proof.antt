@@ -4,8 +4,8 @@ use mathlib.Core.Path.{_∙_}
 use denote.Ref.{now}
 use Rattle.desk.proofs.Admitted.{nothing-kept}
 use Rattle.desk.proofs.Decided.{settlement-refused, settlement-few, settlement-passed}
-use Rattle.desk.proofs.settle_reply.Statement.{statement}
-use Rattle.desk.proofs.settle_reply.Tie as tie
+use Rattle.desk.proofs.chaining.settle_reply.Statement.{statement}
+use Rattle.desk.proofs.chaining.settle_reply.Tie as tie
 
 early-refusal-requires : tie.Need-early-refusal-requires
 early-refusal-requires c κs = nothing-kept

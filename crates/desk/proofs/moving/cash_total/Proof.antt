@@ -3,8 +3,8 @@ use borrow.Author.Needs.{needs}
 use mathlib.Core.Path.{_∙_}
 use denote.Ref.{now}
 use Rattle.desk.proofs.Decided.{cash-misfit, cash-passed}
-use Rattle.desk.proofs.cash_total.Statement.{statement}
-use Rattle.desk.proofs.cash_total.Tie as tie
+use Rattle.desk.proofs.moving.cash_total.Statement.{statement}
+use Rattle.desk.proofs.moving.cash_total.Tie as tie
 
 returns : tie.Need-returns
 returns c = cash-misfit (now (c .before .args .cash)) (c .if1 .taken)

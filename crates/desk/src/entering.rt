@@ -1,0 +1,131 @@
+// The five entries: the answer, and the directory after it.
+use crate::early::early_refusal;
+use crate::rows::with_account;
+use crate::rows::with_csd;
+use crate::rows::with_link;
+use crate::rows::with_pair;
+use crate::rows::with_security;
+use entries::names::NAMES;
+use entries::refusals::account_refusal;
+use entries::refusals::csd_refusal;
+use entries::refusals::link_refusal;
+use entries::refusals::pair_refusal;
+use entries::refusals::security_refusal;
+use index::places::INDEX;
+use rules::Account;
+use rules::Answer;
+use rules::Csd;
+use rules::Directory;
+use rules::Entered;
+use rules::Link;
+use rules::Pair;
+use rules::Security;
+ghost use mathlib.Core.Path.{_≡_};
+ghost use Rattle.rules.specs.declared.Answer.the-variants.{Accepted, Refused};
+ghost use Rattle.rules.specs.Entries.{csdRow, securityRow, accountRow, pairRow, linkRow};
+ghost use Rattle.desk.specs.Outcomes.{enteredOn};
+
+// A refused entry leaves the directory as it is.
+fn entry_refused(number: u8, directory: Directory) -> Entered
+    ensures { λ r. ⌜ r ≡ record { answer = Refused number; directory = directory } ⌝ }
+{
+    Entered {
+        answer: Answer::Refused(number),
+        directory,
+    }
+}
+
+// An accepted one hands back the directory with its row.
+fn entry_accepted(next: Directory) -> Entered
+    ensures { λ r. ⌜ r ≡ record { answer = Accepted; directory = next } ⌝ }
+{
+    Entered {
+        answer: Answer::Accepted,
+        directory: next,
+    }
+}
+
+// 01: a CSD.
+pub fn enter_csd(directory: Directory, row: Csd) -> Entered
+    ensures { λ r. ⌜ r ≡ enteredOn directory (csdRow row) ⌝ }
+{
+    let mut index: [u16; INDEX] = [0; INDEX];
+    let mut names: [u8; NAMES] = [0; NAMES];
+    let number = early_refusal(false, directory, &mut index, &mut names);
+    if number != 0 {
+        return entry_refused(number, directory);
+    }
+    let refusal = csd_refusal(&index, &names, row);
+    if refusal != 0 {
+        return entry_refused(refusal, directory);
+    }
+    entry_accepted(with_csd(directory, row))
+}
+
+// 02: a security.
+pub fn enter_security(directory: Directory, row: Security) -> Entered
+    ensures { λ r. ⌜ r ≡ enteredOn directory (securityRow row) ⌝ }
+{
+    let mut index: [u16; INDEX] = [0; INDEX];
+    let mut names: [u8; NAMES] = [0; NAMES];
+    let number = early_refusal(false, directory, &mut index, &mut names);
+    if number != 0 {
+        return entry_refused(number, directory);
+    }
+    let refusal = security_refusal(&index, &names, row);
+    if refusal != 0 {
+        return entry_refused(refusal, directory);
+    }
+    entry_accepted(with_security(directory, row))
+}
+
+// 03: an account.
+pub fn enter_account(directory: Directory, row: Account) -> Entered
+    ensures { λ r. ⌜ r ≡ enteredOn directory (accountRow row) ⌝ }
+{
+    let mut index: [u16; INDEX] = [0; INDEX];
+    let mut names: [u8; NAMES] = [0; NAMES];
+    let number = early_refusal(false, directory, &mut index, &mut names);
+    if number != 0 {
+        return entry_refused(number, directory);
+    }
+    let refusal = account_refusal(&index, row);
+    if refusal != 0 {
+        return entry_refused(refusal, directory);
+    }
+    entry_accepted(with_account(directory, row))
+}
+
+// 04: a pair.
+pub fn enter_pair(directory: Directory, row: Pair) -> Entered
+    ensures { λ r. ⌜ r ≡ enteredOn directory (pairRow row) ⌝ }
+{
+    let mut index: [u16; INDEX] = [0; INDEX];
+    let mut names: [u8; NAMES] = [0; NAMES];
+    let number = early_refusal(false, directory, &mut index, &mut names);
+    if number != 0 {
+        return entry_refused(number, directory);
+    }
+    let refusal = pair_refusal(&index, row);
+    if refusal != 0 {
+        return entry_refused(refusal, directory);
+    }
+    entry_accepted(with_pair(directory, row))
+}
+
+// 05: a link.
+pub fn enter_link(directory: Directory, row: Link) -> Entered
+    ensures { λ r. ⌜ r ≡ enteredOn directory (linkRow row) ⌝ }
+{
+    let mut index: [u16; INDEX] = [0; INDEX];
+    let mut names: [u8; NAMES] = [0; NAMES];
+    let number = early_refusal(false, directory, &mut index, &mut names);
+    if number != 0 {
+        return entry_refused(number, directory);
+    }
+    let refusal = link_refusal(&index, row);
+    if refusal != 0 {
+        return entry_refused(refusal, directory);
+    }
+    entry_accepted(with_link(directory, row))
+}
