@@ -23,9 +23,9 @@ use Rattle.rules.specs.Stream.{halfAt}
 use Rattle.rules.proofs.Basics.{eqb-true, eqb-false, and-true, and-untrue}
 use Rattle.desk.specs.Outcomes.{holding, enteredOn, settlementOn, derivationOn, blanks, replyOf}
 use Rattle.probe.specs.Codes.{codeOf}
-use Rattle.probe.specs.Layout.{countsLength, rowsLength, stepsLength, directoryIn, countsOf, bytesOf, bytesOfSteps, filled}
+use Rattle.layout.specs.Layout.{countsLength, rowsLength, stepsLength, directoryIn, countsOf, bytesOf, bytesOfSteps, filled}
 use Rattle.probe.specs.Exports.{misfit, fits, fitsSteps, fitsSum, rowOf, moveOf, enters, moves, settles, derives, unitsCode, unitsLeft, centsCode, centsLeft}
-use Rattle.probe.proofs.Bytes.{fills}
+use Rattle.layout.proofs.Bytes.{fills}
 use Rattle.probe.proofs.Moves.{Leaves}
 
 -- ---- tests

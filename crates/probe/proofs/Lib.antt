@@ -1,5 +1,3 @@
-pub mod Rows
-pub mod Bytes
 pub mod Tags
 pub mod Moves
 pub mod Exported

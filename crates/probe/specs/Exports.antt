@@ -18,7 +18,7 @@ use Rattle.rules.specs.Stream.{accountAt, pairAt, linkAt, moveAt, payAt, halfAt
 use Rattle.wire.specs.Operands.{csdIn, securityIn}
 use Rattle.desk.specs.Outcomes.{holding, enteredOn, settlementOn, derivationOn, blanks, replyOf}
 use Rattle.probe.specs.Codes.{codeOf}
-use Rattle.probe.specs.Layout.{countsLength, rowsLength, stepsLength, directoryIn, countsOf, bytesOf, bytesOfSteps}
+use Rattle.layout.specs.Layout.{countsLength, rowsLength, stepsLength, directoryIn, countsOf, bytesOf, bytesOfSteps}
 
 -- the answer where the buffers do not fit
 abbrev pub misfit : ℕ

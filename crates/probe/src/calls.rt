@@ -1,12 +1,12 @@
 // The calls, told by the byte of the command in the stream. An answer is a number: 256 for each kind before it, and what it carries, at
 // most 255. Where the buffers do not fit it is 1280, and nothing is changed.
-use crate::layout::COUNTS;
-use crate::layout::ROWS;
-use crate::layout::STEP_BYTES;
-use crate::layout::read_directory;
-use crate::layout::write_counts;
-use crate::layout::write_rows;
-use crate::layout::write_steps;
+use layout::COUNTS;
+use layout::ROWS;
+use layout::STEP_BYTES;
+use layout::read_directory;
+use layout::write_counts;
+use layout::write_rows;
+use layout::write_steps;
 use rules::Answer;
 use rules::CashTotal;
 use rules::Directory;
@@ -22,7 +22,7 @@ ghost use Rattle.rules.specs.Stream.{transcript};
 ghost use Rattle.probe.specs.Codes.{capped, codeOf};
 ghost use Rattle.stream.specs.Printed.{Printed};
 ghost use Rattle.desk.specs.Outcomes.{holding, enteredOn};
-ghost use Rattle.probe.specs.Layout.{stepsLength, bytesOfSteps, filled};
+ghost use Rattle.layout.specs.Layout.{stepsLength, bytesOfSteps, filled};
 ghost use Rattle.probe.specs.Exports.{rowOf, moveOf, Enters, Moves, Settles, Derives, TotalsUnits, TotalsCents};
 
 // The buffers do not fit.
