@@ -1,6 +1,6 @@
 //! The proved library, linked: the desk's functions over any directory and lists of any length. The
 //! directory goes as five counts and the bytes of all rows, each row with the bytes of the command that
-//! enters it (crates/probe/src/layout.rt).
+//! enters it (crates/layout/src/lib.rt).
 
 use crate::booking::{Cents, Units};
 use crate::chain::{Step, STEPS};

@@ -1,7 +1,9 @@
 // The steps of a chain as numbers in a lent list: three for each step, its CSD, the account debited and the account credited.
+use rules::Answer;
 use rules::STEPS;
 use rules::Step;
 ghost use mathlib.Core.Path.{_≡_};
+ghost use Rattle.rules.specs.Calls.{countOf};
 ghost use Rattle.chain.specs.StepList.{stepAt, withStep};
 
 // How many numbers hold the steps of any chain.
@@ -39,5 +41,17 @@ pub fn put_step(steps: &mut [u16], n: usize, step: Step)
             steps[at + 1] = step.debited;
             steps[at + 2] = step.credited;
         }
+    }
+}
+
+// How many steps an answer counts: K of a booked or derived chain.
+pub fn count_of(answer: Answer) -> usize
+    ensures { λ r. ⌜ r ≡ countOf answer ⌝ }
+{
+    match answer {
+        Answer::Accepted => 0,
+        Answer::Booked(k) => k,
+        Answer::Chained(k) => k,
+        Answer::Refused(_) => 0,
     }
 }

@@ -1,10 +1,5 @@
 // The five entries: the answer, and the directory after it.
-use crate::early::early_refusal;
-use crate::rows::with_account;
-use crate::rows::with_csd;
-use crate::rows::with_link;
-use crate::rows::with_pair;
-use crate::rows::with_security;
+use crate::early_refusal;
 use entries::names::NAMES;
 use entries::refusals::account_refusal;
 use entries::refusals::csd_refusal;
@@ -22,8 +17,79 @@ use rules::Pair;
 use rules::Security;
 ghost use mathlib.Core.Path.{_≡_};
 ghost use Rattle.rules.specs.declared.Answer.the-variants.{Accepted, Refused};
-ghost use Rattle.rules.specs.Entries.{csdRow, securityRow, accountRow, pairRow, linkRow};
+ghost use Rattle.rules.specs.Entries.{csdRow, securityRow, accountRow, pairRow, linkRow, addRow};
 ghost use Rattle.desk.specs.Outcomes.{enteredOn};
+ghost use Prim.Native.Nat.{_<_};
+ghost use Rattle.rules.specs.Directory.{csdLimit, securityLimit, accountLimit, pairLimit, linkLimit};
+
+// ---- a row behind those in use, where its table has room
+
+fn with_csd(directory: Directory, row: Csd) -> Directory
+    requires { ⌜ directory .csds .count < csdLimit ⌝ }
+    ensures { λ r. ⌜ r ≡ addRow (csdRow row) directory ⌝ }
+{
+    let mut csds = directory.csds;
+    let n = csds.count;
+    csds.rows[n] = row;
+    csds.count = n + 1;
+    let mut next = directory;
+    next.csds = csds;
+    next
+}
+
+fn with_security(directory: Directory, row: Security) -> Directory
+    requires { ⌜ directory .securities .count < securityLimit ⌝ }
+    ensures { λ r. ⌜ r ≡ addRow (securityRow row) directory ⌝ }
+{
+    let mut securities = directory.securities;
+    let n = securities.count;
+    securities.rows[n] = row;
+    securities.count = n + 1;
+    let mut next = directory;
+    next.securities = securities;
+    next
+}
+
+fn with_account(directory: Directory, row: Account) -> Directory
+    requires { ⌜ directory .accounts .count < accountLimit ⌝ }
+    ensures { λ r. ⌜ r ≡ addRow (accountRow row) directory ⌝ }
+{
+    let mut accounts = directory.accounts;
+    let n = accounts.count;
+    accounts.rows[n] = row;
+    accounts.count = n + 1;
+    let mut next = directory;
+    next.accounts = accounts;
+    next
+}
+
+fn with_pair(directory: Directory, row: Pair) -> Directory
+    requires { ⌜ directory .pairs .count < pairLimit ⌝ }
+    ensures { λ r. ⌜ r ≡ addRow (pairRow row) directory ⌝ }
+{
+    let mut pairs = directory.pairs;
+    let n = pairs.count;
+    pairs.rows[n] = row;
+    pairs.count = n + 1;
+    let mut next = directory;
+    next.pairs = pairs;
+    next
+}
+
+fn with_link(directory: Directory, row: Link) -> Directory
+    requires { ⌜ directory .links .count < linkLimit ⌝ }
+    ensures { λ r. ⌜ r ≡ addRow (linkRow row) directory ⌝ }
+{
+    let mut links = directory.links;
+    let n = links.count;
+    links.rows[n] = row;
+    links.count = n + 1;
+    let mut next = directory;
+    next.links = links;
+    next
+}
+
+// ---- the entries
 
 // A refused entry leaves the directory as it is.
 fn entry_refused(number: u8, directory: Directory) -> Entered

@@ -1,5 +1,5 @@
 // Positions and cash: bring in, take out, pay in, pay out, and the totals.
-use crate::early::early_refusal;
+use crate::early_refusal;
 use booking::moves::move_securities;
 use booking::payments::move_cash;
 use booking::totals;

@@ -1,6 +1,6 @@
 -- Laws that proofs share: tests of every number below another, the length of a table, and its rows in use.
 use Prim.Native.Nat.{ℕ, zero, suc, _+_, _≤_, _<_, min}
-use mathlib.Core.Path.{_≡_, refl, sym, ap, _∙_}
+use mathlib.Core.Path.{_≡_, refl, sym, _∙_}
 use mathlib.Core.Logic.{⊎-elim}
 use mathlib.Core.Bool.{Bool, true, false, and-false}
 use mathlib.Core.List.{List, [], _∷_, map}
@@ -44,15 +44,3 @@ module _ {A : Type 0} (l : List A) (n i : ℕ) where
   -- the rows end, or the table ends
   pub over : min n (length l) ≤ i → drop i (take n l) ≡ []
   over h = drop-of-length-le (take n l) {i = i} (rw length-take h)
-
-  -- a loop over the rows asks `f` of those ahead. It answers at a row that decides, goes on past one that does not, and ends
-  module _ {B : Type 0} (f : List A → B) where
-    pub decided : (d : A) (r : B) → i < n → i < length l → ((m : List A) → f (getD l i d ∷ m) ≡ r) → f (drop i (take n l)) ≡ f (take n l) → r ≡ f (take n l)
-    decided d r g h e inv = sym (e (drop (i + 1) (take n l))) ∙ (ap f (sym (ahead d g h)) ∙ inv)
-
-    pub passed : (d : A) → i < n → i < length l → ((m : List A) → f (getD l i d ∷ m) ≡ f m) → f (drop i (take n l)) ≡ f (take n l)
-        → f (drop (i + 1) (take n l)) ≡ f (take n l)
-    passed d g h e inv = sym (e (drop (i + 1) (take n l))) ∙ (ap f (sym (ahead d g h)) ∙ inv)
-
-    pub ended : min n (length l) ≤ i → f (drop i (take n l)) ≡ f (take n l) → f [] ≡ f (take n l)
-    ended h inv = ap f (sym (over h)) ∙ inv

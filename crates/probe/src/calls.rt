@@ -16,7 +16,6 @@ use rules::SecurityTotal;
 use wire::operands;
 ghost use mathlib.Core.Path.{_≡_};
 ghost use Prim.Native.Nat.{_+_, _<_};
-ghost use lib.ListN.{length};
 ghost use Rattle.rules.specs.Calls.{desk};
 ghost use Rattle.rules.specs.Stream.{transcript};
 ghost use Rattle.probe.specs.Codes.{capped, codeOf};

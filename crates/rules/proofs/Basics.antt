@@ -122,9 +122,6 @@ leb-not x y e = nleb→lt x y (rw e tt)
 pub leb-true : (x y : ℕ) → x ≤ y → leb x y ≡ true
 leb-true x y l = unfalse (leb x y) (λ e. omega (arith, leb-not x y e))
 
-pub leb-false : (x y : ℕ) → y < x → leb x y ≡ false
-leb-false x y l = untrue (leb x y) (λ e. omega (arith, leb-is x y e))
-
 -- ---- searches
 module _ {A : Type 0} (t : A → Bool) where
   pub find-some : (xs : List A) (x : A) → find t xs ≡ some x → (List·Memᴰ x xs) × (t x ≡ true)

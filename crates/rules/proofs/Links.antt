@@ -59,10 +59,6 @@ module _ (r : Rows) (s c : ℕ) where
       same : (k : Link) → IssuerOf (r .csds) (r .links) s c k → k ≡ l
       same k g = F .oneIssuer k l (g .entered) (h .entered) (g .kind) (g .security ∙ sym (h .security)) (g .csd ∙ sym (h .csd))
 
-  pub found-issuer : (l : Link) → issuerLink (r .links) s c ≡ some l → IssuerOf (r .csds) (r .links) s c l
-  unfolding issuerLink
-  found-issuer l e = issuer-says l (find-some (isIssuer s c) (r .links) l e .0) (find-some (isIssuer s c) (r .links) l e .1)
-
   -- the issuance account of an issuer in T2S
   pub issuance-account : Facts r → external (r .csds) c ≡ false → (l : Link) → IssuerOf (r .csds) (r .links) s c l
       → (inBooks (r .accounts) (l .account) c ≡ true) × (outer (r .accounts) (l .account) ≡ true)

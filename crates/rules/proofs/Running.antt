@@ -1,17 +1,15 @@
 -- A store that calls have made from the empty one stays ready for the next: arrays and lists keep their lengths and the directory stays
 -- sound, so that the tests 3 and 4 find nothing and a call's core is the call.
-use mathlib.Core.Path.{_≡_, refl, sym, ap, _∙_}
-use mathlib.Core.Bool.{Bool, true, false, not, cond}
+use mathlib.Core.Path.{_≡_, refl, _∙_}
+use mathlib.Core.Bool.{Bool, true, false, cond}
 use mathlib.Core.List.{List}
 use Prim.Native.Nat.{ℕ, zero, suc}
 use lib.IntN.{ℤ}
 use lib.Dec.{eqb}
 use lib.ListN.{length}
-use Rattle.rules.specs.Types.{Half, Step}
 use Rattle.rules.specs.Tests.{lowest}
-use Rattle.rules.specs.Directory.{rowsOf}
-use Rattle.rules.specs.Entries.{Row, rowConditions, sound}
-use Rattle.rules.specs.Booking.{Way, positionCount, cashCount, payment, paid, cents, lessCents, addCents}
+use Rattle.rules.specs.Entries.{sound}
+use Rattle.rules.specs.Booking.{positionCount, cashCount, payment, paid, cents, lessCents, addCents}
 use Rattle.rules.specs.Calls.{Store, Call, enter, move, pay, settle, derive, misfit, coreConditions, chainFor, changed, outcome, core, desk, emptyStore}
 use Rattle.rules.proofs.Tables.{Sized, empty-sized, empty-sound, added-sized}
 use Rattle.rules.proofs.Growth.{keeps-sound}

@@ -1,11 +1,11 @@
 -- The chain of document 01: its CSDs in four cases, and its steps with their accounts. Assumes nothing.
 use Prim.Native.Nat.{ℕ, zero, suc, _*_, _-_}
-use mathlib.Core.Bool.{Bool, true, false, not, _&&_, cond}
+use mathlib.Core.Bool.{Bool, true, not, _&&_, cond}
 use mathlib.Core.List.{List, [], _∷_, _++_, map, reverse}
 use mathlib.Core.Option.{Option, none, some}
 use lib.ListN.{take}
 use lib.Dec.{eqb}
-use Rattle.rules.specs.Types.{Pair, Step, Steps, ChainFound, WalkEnd, Inside, Outside, NoLink, TooLong, Verdict, TwoIssuers, TwoExternals, Apart, Join, Meeting, Issuers, Externals}
+use Rattle.rules.specs.Types.{Pair, Step, Steps, WalkEnd, Inside, Outside, NoLink, TooLong, Verdict, TwoIssuers, TwoExternals, Apart, Join, Meeting, Issuers, Externals}
 use Rattle.rules.specs.Tests.{any, find, Condition, _when_}
 use Rattle.rules.specs.Directory.{noCsd}
 use Rattle.rules.specs.Lookups.{Lookups}
@@ -163,7 +163,7 @@ abbrev pub stepsOf : Chain → List Step
 stepsOf (chained ss) = ss
 stepsOf (unchained n) = []
 
--- steps and chains as code holds them by value
+-- steps as code holds them by value
 abbrev pub stepRows : Steps → List Step
 stepRows x = take (x .count) (x .rows)
 
@@ -171,10 +171,6 @@ stepRows x = take (x .count) (x .rows)
 abbrev pub chainBy : ℕ → List Step → Chain
 chainBy zero ss = chained ss
 chainBy (suc n) ss = unchained (suc n)
-
--- what a chain found by code stands for
-abbrev pub chainIn : ChainFound → Chain
-chainIn x = chainBy (x .refusal) (stepRows (x .steps))
 
 -- 14 to 19: the number that a missing chain gives
 abbrev pub chainConditions : Chain → List Condition

@@ -3,20 +3,20 @@ use mathlib.Core.Path.{_≡_}
 use mathlib.Core.Logic.{_≢_}
 use mathlib.Core.Bool.{Bool, true, false, not, _||_, cond}
 use mathlib.Core.List.{List, [], _∷_, _++_, List·Memᴰ}
-use mathlib.Core.Option.{Option, none, some}
+use mathlib.Core.Option.{some}
 use Prim.Native.Nat.{ℕ, _≤_, _<_}
 use lib.IntN.{ℤ, pos, negℤ, _+ℤ_, _-ℤ_}
 use lib.Signed.{_≤ℤ_}
 use lib.Dec.{eqb}
 use lib.ListN.{length}
-use Rattle.rules.specs.Types.{Account, Pair, Directory, Half, Step, Answer, Accepted, Booked, Chained, Refused}
-use Rattle.rules.specs.Tests.{isRow, Condition, _when_, lowest}
+use Rattle.rules.specs.Types.{Account, Pair, Half, Step, Answer, Accepted, Booked, Chained, Refused}
+use Rattle.rules.specs.Tests.{Condition, _when_, lowest}
 use Rattle.rules.specs.Directory.{Rows, rowsOf, isKind, inBooks, noAccount, accountLimit, securityLimit}
 use Rattle.rules.specs.Entries.{Row, csdRow, securityRow, accountRow, pairRow, linkRow, addRow, sound}
 use Rattle.rules.specs.Lookups.{homeOf, ask}
-use Rattle.rules.specs.Chain.{Chain, stepLimit}
-use Rattle.rules.specs.Booking.{Way, incoming, outgoing, limit, cashCount, position, balance, heldIn, cashOn, sum, everyAccount, participants, beyond, contra, moveStep, payment}
-use Rattle.rules.specs.Calls.{Store, Call, enter, move, pay, settle, derive, Outcome, Item, item, Run, run, desk, core, misfit, deskConditions, halfUnknown, halvesConditions, halvesChain, success, written, lentSteps, isAccepted, numberOf, emptyStore}
+use Rattle.rules.specs.Chain.{stepLimit}
+use Rattle.rules.specs.Booking.{Way, incoming, outgoing, limit, cashCount, heldIn, cashOn, sum, everyAccount, participants, beyond, contra, moveStep, payment}
+use Rattle.rules.specs.Calls.{Store, Call, enter, move, pay, settle, derive, Outcome, Item, item, run, desk, core, misfit, deskConditions, halfUnknown, halvesConditions, success, written, lentSteps, isAccepted, numberOf, emptyStore}
 use Rattle.rules.specs.Relations.{ChainIs}
 
 -- ---- Demand 1: "What it can't accept it refuses by document 01's number; directory, positions, cash and step list are then as before."

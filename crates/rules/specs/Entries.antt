@@ -4,7 +4,7 @@ use mathlib.Core.Bool.{Bool, not, _&&_, _||_, cond}
 use mathlib.Core.List.{List, [], _∷_}
 use lib.ListN.{set, replicate}
 use lib.Dec.{ltb, leb, eqb}
-use Rattle.rules.specs.Types.{Csd, Security, Account, Pair, Link, CsdTable, SecurityTable, AccountTable, PairTable, LinkTable, Directory, Entered, Answer, Accepted, Refused}
+use Rattle.rules.specs.Types.{Csd, Security, Account, Pair, Link, CsdTable, SecurityTable, AccountTable, PairTable, LinkTable, Directory, Entered, Accepted, Refused}
 use Rattle.rules.specs.Tests.{eachAfter, isFull, Condition, _when_, lowest}
 use Rattle.rules.specs.Identifiers.{isBic, isIsin, isinChecks}
 use Rattle.rules.specs.Directory.{Rows, rowsOf, csdLimit, securityLimit, accountLimit, pairLimit, linkLimit, noCsd, noAccount, bicEntered, isinEntered}

@@ -1,11 +1,11 @@
 -- The walks and the chain of document 01 once more, as relations without a counter: a constructor for each way that it gives.
 use mathlib.Core.Path.{_≡_}
 use mathlib.Core.Logic.{_≢_}
-use mathlib.Core.Bool.{Bool, true, false}
+use mathlib.Core.Bool.{true, false}
 use mathlib.Core.List.{List, [], _∷_, _++_, List·Memᴰ}
 use Prim.Native.Nat.{ℕ, _≤_}
 use lib.ListN.{length}
-use Rattle.rules.specs.Types.{Csd, Pair, Link, Step, WalkEnd, Inside, Outside, NoLink, TooLong, Join, Meeting, Issuers, Externals}
+use Rattle.rules.specs.Types.{Csd, Pair, Link, Step, WalkEnd, Inside, Outside, NoLink, Join, Meeting, Issuers, Externals}
 use Rattle.rules.specs.Directory.{Rows, external}
 use Rattle.rules.specs.Walks.{sideLimit, arrived}
 use Rattle.rules.specs.Lookups.{homeOf}

@@ -30,5 +30,4 @@ pub use Rattle.rules.specs.declared.CashTotal.{CashTotal}
 pub use Rattle.rules.specs.declared.CashTotal.the-variants.{SumCents, NoCents}
 pub use Rattle.rules.specs.declared.Entered.{Entered}
 pub use Rattle.rules.specs.declared.Steps.{Steps}
-pub use Rattle.rules.specs.declared.ChainFound.{ChainFound}
 pub use Rattle.rules.specs.declared.Reply.{Reply}

@@ -193,12 +193,6 @@ pub struct Steps {
     pub rows: [Step; STEPS],
 }
 
-// The steps of a chain, or the number that refuses it: 0 where there is a chain.
-pub struct ChainFound {
-    pub refusal: u8,
-    pub steps: Steps,
-}
-
 // What a derivation or settlement answers, with its steps by value.
 pub struct Reply {
     pub answer: Answer,

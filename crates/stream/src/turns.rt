@@ -1,10 +1,10 @@
 // One command after another: what stands at a place, its lines, and where the next one stands.
 use crate::commands::obey;
+use chain::step_list::count_of;
 use chain::step_list::step_at;
 use entries::names::NAMES;
 use index::places::INDEX;
 use rules::Answer;
-use text::lines::count_of;
 use text::lines::put_line;
 use text::lines::put_step;
 use text::pieces::put_word;

@@ -32,11 +32,6 @@ pub step-long : (x : Step)
 unfolding stepLine
 step-long x = simp length-append (omega arith)
 
--- a step of numbers of 8 and 16 bits
-pub short-step : (x : Step) → x .csd < 256 → x .debited < 65_536 → x .credited < 65_536 → length (stepLine x) ≤ 18
-short-step x a b c =
-    omega (arith, step-long x, short-decimal 2 (x .csd) (omega arith), short-decimal 4 (x .debited) (omega arith), short-decimal 4 (x .credited) (omega arith))
-
 pub short-steps : (b : ℕ) (xs : List Step) → ((x : Step) → List·Memᴰ x xs → length (stepLine x) ≤ b) → length (stepLines xs) ≤ b * length xs
 unfolding stepLines
 short-steps b [] h = omega arith

@@ -9,11 +9,9 @@ use rules::Cents;
 use rules::ISIN;
 use rules::Step;
 use rules::Units;
-ghost use mathlib.Core.Path.{_≡_};
 ghost use mathlib.Core.List.{[]};
 ghost use Prim.Native.Nat.{_+_, _≤_, _<_};
 ghost use lib.ListN.{length};
-ghost use Rattle.rules.specs.Calls.{countOf};
 ghost use Rattle.rules.specs.Stream.{decimal, stepLine, answerText, said, totalLine, cashLine};
 ghost use Rattle.text.specs.Appended.{Appended};
 
@@ -93,18 +91,6 @@ pub fn put_answer(out: &mut [u8], at: usize, answer: Answer) -> usize
         Answer::Booked(k) => put_counted(out, at, b"booked ", k as u64),
         Answer::Chained(k) => put_counted(out, at, b"chain ", k as u64),
         Answer::Refused(n) => put_counted(out, at, b"no ", n as u64),
-    }
-}
-
-// K, where the answer has steps.
-pub fn count_of(answer: Answer) -> usize
-    ensures { λ r. ⌜ r ≡ countOf answer ⌝ }
-{
-    match answer {
-        Answer::Accepted => 0,
-        Answer::Booked(k) => k,
-        Answer::Chained(k) => k,
-        Answer::Refused(_) => 0,
     }
 }
 

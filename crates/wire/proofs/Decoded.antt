@@ -8,7 +8,7 @@ use mathlib.Core.Option.{Option, none, some}
 use lib.ListN.{length}
 use Rattle.rules.specs.Entries.{csdRow, securityRow}
 use Rattle.rules.specs.Booking.{incoming, outgoing}
-use Rattle.rules.specs.Calls.{enter, move, pay, settle, derive}
+use Rattle.rules.specs.Calls.{enter, move, pay, settle}
 use Rattle.rules.specs.Stream.{widths, widthOf, callOf, csdAt, securityAt, accountAt, pairAt, linkAt, halfAt, programSteps}
 use Rattle.wire.specs.Operands.{csdIn, securityIn, moveIn, paymentIn}
 use Rattle.wire.proofs.Padded.{padded-is}

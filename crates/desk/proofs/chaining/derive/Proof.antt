@@ -59,10 +59,10 @@ use Rattle.desk.proofs.chaining.derive_reply as core
 use Rattle.desk.proofs.chaining.derive_reply.Symbol as core-def
 use Rattle.desk.proofs.chaining.derive_reply.Symbol.{name as #desk·chaining·derive-reply}
 use Rattle.desk.proofs.chaining.derive_reply.Met as core-thm
-use Rattle.desk.proofs.steps.finish as put
-use Rattle.desk.proofs.steps.finish.Symbol as put-def
-use Rattle.desk.proofs.steps.finish.Symbol.{name as #desk·steps·finish}
-use Rattle.desk.proofs.steps.finish.Met as put-thm
+use Rattle.desk.proofs.chaining.finish as put
+use Rattle.desk.proofs.chaining.finish.Symbol as put-def
+use Rattle.desk.proofs.chaining.finish.Symbol.{name as #desk·chaining·finish}
+use Rattle.desk.proofs.chaining.finish.Met as put-thm
 use Rattle.desk.proofs.chaining.derive.Key.{name as #desk·chaining·derive}
 use Rattle.desk.proofs.chaining.derive as f
 use Rattle.desk.proofs.chaining.derive.Statement as stated
@@ -150,7 +150,7 @@ module _ {M : Type 1} (𝓤 : URA M) (H : Heap 𝓤) (A : Atoms 𝓤) (W : Given
         nothing ! $ owned ! P.the-row (Is P.the-row) ((LL.makes P.the-type P′.the-plain) 𝓤 H A) g _ is-g $ fjoin ! $ owned ! P.the-row (Is P.the-row) ((LL.makes P.the-type P′.the-plain) 𝓤 H A) h _ is-h $ fjoin ! $
         move ! (2 ∷ 0 ∷ []) $ fjoin ! $ owned ! D.the-row (Is D.the-row) ((LL.makes D.the-type D′.the-plain) 𝓤 H A) d _ is-d $ fjoin ! $ done !
 
-    module _ (C : Calls 𝓤 H) (Λ : Loops 𝓤 H) (fm : FmC 𝓤 H (W .laws) C) (known-core : Triple 𝓤 (C #desk·chaining·derive-reply) (Core 𝓤 H A mem run)) (known-put : Triple 𝓤 (C #desk·steps·finish) (Put 𝓤 H A mem run)) where
+    module _ (C : Calls 𝓤 H) (Λ : Loops 𝓤 H) (fm : FmC 𝓤 H (W .laws) C) (known-core : Triple 𝓤 (C #desk·chaining·derive-reply) (Core 𝓤 H A mem run)) (known-put : Triple 𝓤 (C #desk·chaining·finish) (Put 𝓤 H A mem run)) where
       walk : ent 𝓤 (onEntry 𝓤 H A f.signature (κ, tt) (q, tt) a vals) (WpFn 𝓤 H C Λ code.function (dv ∷ s ∷ hv ∷ gv ∷ []) Post)
       walk =
           qed W ((‵ (flft κ q) ⊛ ‵ ftrue) ∷ ‵ (owns (D.the-row ∷ MutSlice (named 0) κ T.the-row ∷ P.the-row ∷ P.the-row ∷ []) a vals) ∷ []) ∵ enter ! C Λ code.function (dv ∷ s ∷ hv ∷ gv ∷ []) _ $
@@ -185,7 +185,7 @@ module _ {M : Type 1} (𝓤 : URA M) (H : Heap 𝓤) (A : Atoms 𝓤) (W : Given
           by ! (exits (zs .0) w₁ (e₁ .1 ∙ derivation-serves d ys h g r e₀ .steps) len))))))))))))))))))))
 
 module _ {M : Type 1} (𝓤 : URA M) (H : Heap 𝓤) (A : Atoms 𝓤) (W : Given 𝓤 H A) (mem : Memory → SProp 𝓤) (run : Routine → Fun 𝓤) where
-  derive-walks : (C : Calls 𝓤 H) (Λ : Loops 𝓤 H) → FmC 𝓤 H (W .laws) C → Triple 𝓤 (C #desk·chaining·derive-reply) (Core 𝓤 H A mem run) → Triple 𝓤 (C #desk·steps·finish) (Put 𝓤 H A mem run)
+  derive-walks : (C : Calls 𝓤 H) (Λ : Loops 𝓤 H) → FmC 𝓤 H (W .laws) C → Triple 𝓤 (C #desk·chaining·derive-reply) (Core 𝓤 H A mem run) → Triple 𝓤 (C #desk·chaining·finish) (Put 𝓤 H A mem run)
       → Walks 𝓤 H A f.ended stayed (WpFn 𝓤 H C Λ code.function) (f.clauses 𝓤 H A mem run)
   derive-walks C Λ fm known-core known-put = walked 𝓤 H A f.ended stayed (f.clauses 𝓤 H A mem run) (WpFn 𝓤 H C Λ code.function)
       (λ κs. (LL.vals D.the-type D′.the-laws, (slice-vals, (LL.vals P.the-type P′.the-laws, (LL.vals P.the-type P′.the-laws, tt)))))
@@ -194,7 +194,7 @@ module _ {M : Type 1} (𝓤 : URA M) (H : Heap 𝓤) (A : Atoms 𝓤) (W : Given
       (walk 𝓤 H A W mem run (κs .0) (qs .0) (a .0) (a .1 .0) (a .1 .1 .0) (a .1 .1 .1 .0) (are .0) (are .1 .1 .0) (are .1 .1 .1 .0) (are .1 .0 .0 .1) C Λ fm known-core known-put))
 
 derive-meets : {M : Type 1} (𝓤 : URA M) (H : Heap 𝓤) (A : Atoms 𝓤) → Given 𝓤 H A → (mem : Memory → SProp 𝓤) (run : Routine → Fun 𝓤) (𝓣 : Tables 𝓤 H)
-    → Triple 𝓤 (𝓣 .C #desk·chaining·derive-reply) (Core 𝓤 H A mem run) → Triple 𝓤 (𝓣 .C #desk·steps·finish) (Put 𝓤 H A mem run)
+    → Triple 𝓤 (𝓣 .C #desk·chaining·derive-reply) (Core 𝓤 H A mem run) → Triple 𝓤 (𝓣 .C #desk·chaining·finish) (Put 𝓤 H A mem run)
     → Meets 𝓤 H A f.signature (WpFn 𝓤 H (𝓣 .C) (𝓣 .Λ) code.function) (f.spec 𝓤 H A mem run)
 derive-meets 𝓤 H A W mem run 𝓣 known-core known-put =
     walk-meets 𝓤 H A f.ended stayed W (goes-none 𝓤 H A W 1 (λ _. D.the-row) yes (λ κs x f. refl), (goes-gave-slice 𝓤 H A W 1 0 tt (plain (λ _. T.the-row)), (goes-none 𝓤 H A W 1 (λ _. P.the-row) yes (λ κs x f. refl), (goes-none 𝓤 H A W 1 (λ _. P.the-row) yes (λ κs x f. refl), tt)))) (f.clauses 𝓤 H A mem run)
@@ -207,4 +207,4 @@ derive-spec 𝓤 H 𝓜 𝓖 𝓡 =
     (tables 𝓤 H 𝓜 𝓡 code.env .C) (tables 𝓤 H 𝓜 𝓡 code.env .Λ) #desk·chaining·derive code.function (code.unfolded 𝓤 H 𝓜 𝓡)
     (derive-meets 𝓤 H (𝓖 .A) (givenOf 𝓤 H 𝓜 𝓖) (𝓜 .mem) (𝓡 .run) (tablesOf 𝓤 H 𝓜 (tables 𝓤 H 𝓜 𝓡 code.env))
     (cited 𝓤 H (Core 𝓤 H (𝓖 .A) (𝓜 .mem) (𝓡 .run)) 𝓜 𝓡 code.env #desk·chaining·derive-reply core-def.routine code.calls-desk·chaining·derive-reply (core-thm.met 𝓤 H 𝓜 𝓖 𝓡))
-    (cited 𝓤 H (Put 𝓤 H (𝓖 .A) (𝓜 .mem) (𝓡 .run)) 𝓜 𝓡 code.env #desk·steps·finish put-def.routine code.calls-desk·steps·finish (put-thm.met 𝓤 H 𝓜 𝓖 𝓡)))
+    (cited 𝓤 H (Put 𝓤 H (𝓖 .A) (𝓜 .mem) (𝓡 .run)) 𝓜 𝓡 code.env #desk·chaining·finish put-def.routine code.calls-desk·chaining·finish (put-thm.met 𝓤 H 𝓜 𝓖 𝓡)))

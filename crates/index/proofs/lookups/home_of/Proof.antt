@@ -1,5 +1,4 @@
 -- The code is one more than the CSD, which is a byte.
-use native.Mathlib.Omega.{arith}
 use borrow.Author.Tests.{lt-ltb, le-ltb, ne-eqb}
 use Rattle.index.specs.Asked.{asked}
 use borrow.Author.Needs.{needs}

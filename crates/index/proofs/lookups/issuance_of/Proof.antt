@@ -1,5 +1,5 @@
 -- An issuer's code stands within the list, and so does its account.
-use mathlib.Core.Path.{sym, _∙_}
+use mathlib.Core.Path.{_∙_}
 use native.Mathlib.Omega.{arith}
 use borrow.Author.Tests.{lt-leb, le-leb}
 use Rattle.index.specs.Index.{routeAt, issuanceAt, issuerCode}

@@ -1,6 +1,5 @@
 -- A pair's accounts stand within the list.
-use mathlib.Core.Path.{sym, _∙_}
-use native.Mathlib.Omega.{arith}
+use mathlib.Core.Path.{_∙_}
 use borrow.Author.Tests.{ne-eqb}
 use Rattle.index.specs.Index.{mirrorAt, omnibusAt}
 use Rattle.index.specs.Asked.{asked}

@@ -1,8 +1,6 @@
 -- Below 256 the number itself, else 255.
-use mathlib.Core.Path.{sym, ap}
 use native.Mathlib.Omega.{arith}
 use borrow.Author.Tests.{lt-ltb, le-ltb}
-use Rattle.probe.specs.Codes.{cappedBy}
 use Rattle.probe.proofs.calls.small.Statement.{statement}
 use Rattle.probe.proofs.calls.small.Tie as tie
 

@@ -1,7 +1,7 @@
 -- Fewer of the CSDs than the side names, or none.
 use Prim.Native.Nat.{_-_, _≤_}
 use mathlib.Core.Path.{_≡_, sym}
-use lib.ListN.{length, take, length-take}
+use lib.ListN.{length, length-take}
 use lib.Seq.{take-take}
 use native.Mathlib.Omega.{arith}
 use borrow.Author.Needs.{needs}

@@ -1,10 +1,8 @@
 -- By the way's number.
 use mathlib.Core.Path.{_≡_, refl}
-use native.Mathlib.Omega.{arith}
-use Prim.Native.Nat.{ℕ, zero, suc, _≤_}
+use Prim.Native.Nat.{ℕ, zero, suc}
 use Rattle.rules.specs.declared.WalkEnd.the-variants.{TooLong}
 use Rattle.walks.specs.Walks.{endAt}
-use borrow.Author.Needs.{needs}
 use Rattle.walks.proofs.walks.end_at.Statement.{statement}
 use Rattle.walks.proofs.walks.end_at.Tie as tie
 

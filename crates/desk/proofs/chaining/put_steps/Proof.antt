@@ -56,15 +56,15 @@ use Rattle.rules.proofs.Step as T
 use Rattle.rules.proofs.Step.Laws as T′
 use Rattle.rules.proofs.Steps as K
 use Rattle.rules.proofs.Steps.Laws as K′
-use Rattle.desk.proofs.steps.step_of as step-of
-use Rattle.desk.proofs.steps.step_of.Symbol as step-of-def
-use Rattle.desk.proofs.steps.step_of.Symbol.{name as #desk·steps·step-of}
-use Rattle.desk.proofs.steps.step_of.Met as step-of-thm
-use Rattle.desk.proofs.steps.put_steps.Key.{name as #desk·steps·put-steps}
-use Rattle.desk.proofs.steps.put_steps as f
-use Rattle.desk.proofs.steps.put_steps.Statement as stated
-use Rattle.desk.proofs.steps.put_steps.Code as code
-use Rattle.desk.proofs.steps.put_steps.Code.Mir as mir′
+use Rattle.desk.proofs.chaining.step_of as step-of
+use Rattle.desk.proofs.chaining.step_of.Symbol as step-of-def
+use Rattle.desk.proofs.chaining.step_of.Symbol.{name as #desk·chaining·step-of}
+use Rattle.desk.proofs.chaining.step_of.Met as step-of-thm
+use Rattle.desk.proofs.chaining.put_steps.Key.{name as #desk·chaining·put-steps}
+use Rattle.desk.proofs.chaining.put_steps as f
+use Rattle.desk.proofs.chaining.put_steps.Statement as stated
+use Rattle.desk.proofs.chaining.put_steps.Code as code
+use Rattle.desk.proofs.chaining.put_steps.Code.Mir as mir′
 
 abbrev stayed : Stays (f.ended .signature .params) (f.ended .kept)
 stayed = (stay-slice (0 ∷ []) tt (plain (λ _. T.the-row)), (stay-none (λ _. K.the-row) yes, tt))
@@ -162,7 +162,7 @@ module _ {M : Type 1} (𝓤 : URA M) (H : Heap 𝓤) (A : Atoms 𝓤) (W : Given
   goes-of i small = qed W (‵ (K.the-row .own c (mach ∷ [])) ∷ ‵ (usize .own i (vint w64 i ∷ [])) ∷ []) ∵ says ! small $
       nothing ! $ move ! (2 ∷ 0 ∷ []) $ fjoin ! $ move ! (1 ∷ 0 ∷ []) $ fjoin ! $ nothing ! $ frame ! $ done !
 
-  module _ (𝓣 : Tables 𝓤 H) (known : Triple 𝓤 (𝓣 .C #desk·steps·step-of) (Of 𝓤 H A mem run)) (is : Is K.the-row c (mach ∷ [])) (room : Room T.the-row (length ys)) (few : k ≤ 16) (lent : k ≤ length ys) (l₀ l₁ l₂ l₃ l₄ l₅ l₆ l₇ l₈ : ℕ) where
+  module _ (𝓣 : Tables 𝓤 H) (known : Triple 𝓤 (𝓣 .C #desk·chaining·step-of) (Of 𝓤 H A mem run)) (is : Is K.the-row c (mach ∷ [])) (room : Room T.the-row (length ys)) (few : k ≤ 16) (lent : k ≤ length ys) (l₀ l₁ l₂ l₃ l₄ l₅ l₆ l₇ l₈ : ℕ) where
     abbrev C : Calls 𝓤 H
     C = 𝓣 .C
 
@@ -263,7 +263,7 @@ module _ {M : Type 1} (𝓤 : URA M) (H : Heap 𝓤) (A : Atoms 𝓤) (W : Given
         (via 𝓤 (guard 𝓤 (0 + k ≡ k) (⋆ 𝓤 H A (At 0))) (guardI 𝓤 (0 + k ≡ k) (⋆ 𝓤 H A (At 0)) (zero-add k)) (exI 𝓤 (λ (j : ℕ). guard 𝓤 (j + k ≡ k) (⋆ 𝓤 H A (At j))) 0))
         (loop-rule 𝓤 H (W .laws) 𝓣 _<_ (Nat·lt-wfRel .wf) En mir′.turn-1 Left Inv turns k)
 
-  module _ (𝓣 : Tables 𝓤 H) (known : Triple 𝓤 (𝓣 .C #desk·steps·step-of) (Of 𝓤 H A mem run)) where
+  module _ (𝓣 : Tables 𝓤 H) (known : Triple 𝓤 (𝓣 .C #desk·chaining·step-of) (Of 𝓤 H A mem run)) where
     -- the MIR up to the loop
     walk : Is K.the-row c (mach ∷ []) → Room T.the-row (length ys) → k ≤ 16 → k ≤ length ys → ent 𝓤 (onEntry 𝓤 H A f.signature (κ, tt) (q, tt) a vals) (WpFn 𝓤 H (𝓣 .C) (𝓣 .Λ) code.function (s ∷ mach ∷ []) Post)
     walk is room few lent =
@@ -278,13 +278,13 @@ module _ {M : Type 1} (𝓤 : URA M) (H : Heap 𝓤) (A : Atoms 𝓤) (W : Given
         move ! (4 ∷ 5 ∷ []) $ drop ! $ drop ! $ by ! (looped 𝓣 known is room few lent l₀ l₁ l₂ l₃ l₄ l₅ l₆ l₇ l₈))))))))))
 
 module _ {M : Type 1} (𝓤 : URA M) (H : Heap 𝓤) (A : Atoms 𝓤) (W : Given 𝓤 H A) (mem : Memory → SProp 𝓤) (run : Routine → Fun 𝓤) where
-  put-steps-walks : (𝓣 : Tables 𝓤 H) → Triple 𝓤 (𝓣 .C #desk·steps·step-of) (Of 𝓤 H A mem run) → Walks 𝓤 H A f.ended stayed (WpFn 𝓤 H (𝓣 .C) (𝓣 .Λ) code.function) (f.clauses 𝓤 H A mem run)
+  put-steps-walks : (𝓣 : Tables 𝓤 H) → Triple 𝓤 (𝓣 .C #desk·chaining·step-of) (Of 𝓤 H A mem run) → Walks 𝓤 H A f.ended stayed (WpFn 𝓤 H (𝓣 .C) (𝓣 .Λ) code.function) (f.clauses 𝓤 H A mem run)
   put-steps-walks 𝓣 known = walked 𝓤 H A f.ended stayed (f.clauses 𝓤 H A mem run) (WpFn 𝓤 H (𝓣 .C) (𝓣 .Λ) code.function)
       (λ κs. (slice-vals, (LL.vals K.the-type K′.the-laws, tt))) (λ κs. (mut-slice-tells (named 0) (κs .0) T.the-row, (LL.tells K.the-type K′.the-laws, tt)))
       (λ κs qs bounds a g are. needs 𝓤 ((a .1 .0 .count ≤ 16) × (a .1 .0 .count ≤ length (a .0 .now))) _ (λ asked.
       walk 𝓤 H A W mem run (κs .0) (qs .0) (a .0 .ptr .0) (a .0 .ptr .1) (a .0 .name) (a .0 .now) (a .1 .0) 𝓣 known (are .1 .0) (are .0 .0 .1) (asked .0) (asked .1)))
 
-put-steps-meets : {M : Type 1} (𝓤 : URA M) (H : Heap 𝓤) (A : Atoms 𝓤) → Given 𝓤 H A → (mem : Memory → SProp 𝓤) (run : Routine → Fun 𝓤) (𝓣 : Tables 𝓤 H) → Triple 𝓤 (𝓣 .C #desk·steps·step-of) (Of 𝓤 H A mem run)
+put-steps-meets : {M : Type 1} (𝓤 : URA M) (H : Heap 𝓤) (A : Atoms 𝓤) → Given 𝓤 H A → (mem : Memory → SProp 𝓤) (run : Routine → Fun 𝓤) (𝓣 : Tables 𝓤 H) → Triple 𝓤 (𝓣 .C #desk·chaining·step-of) (Of 𝓤 H A mem run)
     → Meets 𝓤 H A f.signature (WpFn 𝓤 H (𝓣 .C) (𝓣 .Λ) code.function) (f.spec 𝓤 H A mem run)
 put-steps-meets 𝓤 H A W mem run 𝓣 known =
     walk-meets 𝓤 H A f.ended stayed W (goes-slice 𝓤 H A W 1 0 tt (plain (λ _. T.the-row)), (goes-none 𝓤 H A W 1 (λ _. K.the-row) yes (λ κs x f. refl), tt)) (f.clauses 𝓤 H A mem run)
@@ -294,6 +294,6 @@ pub put-steps-spec : {M : Type 1} → stated.statement M
 unfolding code.routine tablesOf
 put-steps-spec 𝓤 H 𝓜 𝓖 𝓡 =
     entered 𝓤 H (tripleOf 𝓤 H (𝓖 .A) f.signature (f.spec 𝓤 H (𝓖 .A) (𝓜 .mem) (𝓡 .run)))
-    (tables 𝓤 H 𝓜 𝓡 code.env .C) (tables 𝓤 H 𝓜 𝓡 code.env .Λ) #desk·steps·put-steps code.function (code.unfolded 𝓤 H 𝓜 𝓡)
+    (tables 𝓤 H 𝓜 𝓡 code.env .C) (tables 𝓤 H 𝓜 𝓡 code.env .Λ) #desk·chaining·put-steps code.function (code.unfolded 𝓤 H 𝓜 𝓡)
     (put-steps-meets 𝓤 H (𝓖 .A) (givenOf 𝓤 H 𝓜 𝓖) (𝓜 .mem) (𝓡 .run) (tablesOf 𝓤 H 𝓜 (tables 𝓤 H 𝓜 𝓡 code.env))
-    (cited 𝓤 H (Of 𝓤 H (𝓖 .A) (𝓜 .mem) (𝓡 .run)) 𝓜 𝓡 code.env #desk·steps·step-of step-of-def.routine code.calls-desk·steps·step-of (step-of-thm.met 𝓤 H 𝓜 𝓖 𝓡)))
+    (cited 𝓤 H (Of 𝓤 H (𝓖 .A) (𝓜 .mem) (𝓡 .run)) 𝓜 𝓡 code.env #desk·chaining·step-of step-of-def.routine code.calls-desk·chaining·step-of (step-of-thm.met 𝓤 H 𝓜 𝓖 𝓡)))

@@ -1,8 +1,8 @@
 -- The record as it stands.
 use mathlib.Core.Path.{refl}
 use Rattle.rules.specs.Entries.{emptyDirectory}
-use Rattle.desk.proofs.rows.empty.Statement.{statement}
-use Rattle.desk.proofs.rows.empty.Tie as tie
+use Rattle.desk.proofs.blank.empty.Statement.{statement}
+use Rattle.desk.proofs.blank.empty.Tie as tie
 
 returns : tie.Need-returns
 unfolding emptyDirectory

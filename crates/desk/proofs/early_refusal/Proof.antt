@@ -6,8 +6,8 @@ use Rattle.rules.proofs.Basics.{unnot, unnot-false}
 use Rattle.index.proofs.Laws.{length-mapped}
 use Rattle.index.specs.Index.{WholeTables}
 use Rattle.desk.proofs.Admitted.{misfitting, unsound, admitted}
-use Rattle.desk.proofs.early.early_refusal.Statement.{statement}
-use Rattle.desk.proofs.early.early_refusal.Tie as tie
+use Rattle.desk.proofs.early_refusal.Statement.{statement}
+use Rattle.desk.proofs.early_refusal.Tie as tie
 
 returns : tie.Need-returns
 returns c = misfitting _ _ _ (c .if1 .taken)

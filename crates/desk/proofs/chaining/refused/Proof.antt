@@ -6,8 +6,8 @@ use Rattle.rules.specs.declared.Answer.the-variants.{Refused}
 use Rattle.rules.specs.declared.Step.{Step}
 use Rattle.rules.specs.declared.Reply.{Reply}
 use borrow.Author.Needs.{needs}
-use Rattle.desk.proofs.steps.refused.Statement.{statement}
-use Rattle.desk.proofs.steps.refused.Tie as tie
+use Rattle.desk.proofs.chaining.refused.Statement.{statement}
+use Rattle.desk.proofs.chaining.refused.Tie as tie
 
 blank-rows-requires : tie.Need-blank-rows-requires
 blank-rows-requires c κs = search needs

@@ -49,15 +49,15 @@ use Rattle.rules.proofs.Answer as E
 use Rattle.rules.proofs.Answer.Laws as E′
 use Rattle.rules.proofs.Reply as O
 use Rattle.rules.proofs.Reply.Laws as O′
-use Rattle.desk.proofs.steps.put_steps as put
-use Rattle.desk.proofs.steps.put_steps.Symbol as put-def
-use Rattle.desk.proofs.steps.put_steps.Symbol.{name as #desk·steps·put-steps}
-use Rattle.desk.proofs.steps.put_steps.Met as put-thm
-use Rattle.desk.proofs.steps.finish.Key.{name as #desk·steps·finish}
-use Rattle.desk.proofs.steps.finish as f
-use Rattle.desk.proofs.steps.finish.Statement as stated
-use Rattle.desk.proofs.steps.finish.Code as code
-use Rattle.desk.proofs.steps.finish.Code.Mir as mir′
+use Rattle.desk.proofs.chaining.put_steps as put
+use Rattle.desk.proofs.chaining.put_steps.Symbol as put-def
+use Rattle.desk.proofs.chaining.put_steps.Symbol.{name as #desk·chaining·put-steps}
+use Rattle.desk.proofs.chaining.put_steps.Met as put-thm
+use Rattle.desk.proofs.chaining.finish.Key.{name as #desk·chaining·finish}
+use Rattle.desk.proofs.chaining.finish as f
+use Rattle.desk.proofs.chaining.finish.Statement as stated
+use Rattle.desk.proofs.chaining.finish.Code as code
+use Rattle.desk.proofs.chaining.finish.Code.Mir as mir′
 
 abbrev stayed : Stays (f.ended .signature .params) (f.ended .kept)
 stayed = (gave-slice (0 ∷ []) tt (plain (λ _. T.the-row)), (stay-none (λ _. O.the-row) yes, tt))
@@ -129,7 +129,7 @@ module _ {M : Type 1} (𝓤 : URA M) (H : Heap 𝓤) (A : Atoms 𝓤) (W : Given
         nothing ! $ owned ! O.the-row (Is O.the-row) ((LL.makes O.the-type O′.the-plain) 𝓤 H A) o _ is $ fjoin ! $ move ! (1 ∷ 0 ∷ []) $ fjoin ! $
         owned ! E.the-row (Is E.the-row) ((EL.makes E.the-type E′.the-plain) 𝓤 H A) (o .answer) _ (LL.owed O.the-type O′.the-laws o _ is .0) $ move ! (1 ∷ 0 ∷ []) $ done !
 
-    module _ (C : Calls 𝓤 H) (Λ : Loops 𝓤 H) (fm : FmC 𝓤 H (W .laws) C) (known-put : Triple 𝓤 (C #desk·steps·put-steps) (Put 𝓤 H A mem run)) where
+    module _ (C : Calls 𝓤 H) (Λ : Loops 𝓤 H) (fm : FmC 𝓤 H (W .laws) C) (known-put : Triple 𝓤 (C #desk·chaining·put-steps) (Put 𝓤 H A mem run)) where
       walk : ent 𝓤 (onEntry 𝓤 H A f.signature (κ, tt) (q, tt) a vals) (WpFn 𝓤 H C Λ code.function (s ∷ ov ∷ []) Post)
       walk =
           qed W ((‵ (flft κ q) ⊛ ‵ ftrue) ∷ ‵ (owns (MutSlice (named 0) κ T.the-row ∷ O.the-row ∷ []) a vals) ∷ []) ∵ enter ! C Λ code.function (s ∷ ov ∷ []) _ $
@@ -153,7 +153,7 @@ module _ {M : Type 1} (𝓤 : URA M) (H : Heap 𝓤) (A : Atoms 𝓤) (W : Given
           by ! (exits (zs .0) e₁ len)))))))))))))
 
 module _ {M : Type 1} (𝓤 : URA M) (H : Heap 𝓤) (A : Atoms 𝓤) (W : Given 𝓤 H A) (mem : Memory → SProp 𝓤) (run : Routine → Fun 𝓤) where
-  finish-walks : (C : Calls 𝓤 H) (Λ : Loops 𝓤 H) → FmC 𝓤 H (W .laws) C → Triple 𝓤 (C #desk·steps·put-steps) (Put 𝓤 H A mem run)
+  finish-walks : (C : Calls 𝓤 H) (Λ : Loops 𝓤 H) → FmC 𝓤 H (W .laws) C → Triple 𝓤 (C #desk·chaining·put-steps) (Put 𝓤 H A mem run)
       → Walks 𝓤 H A f.ended stayed (WpFn 𝓤 H C Λ code.function) (f.clauses 𝓤 H A mem run)
   finish-walks C Λ fm known-put = walked 𝓤 H A f.ended stayed (f.clauses 𝓤 H A mem run) (WpFn 𝓤 H C Λ code.function)
       (λ κs. (slice-vals, (LL.vals O.the-type O′.the-laws, tt))) (λ κs. (mut-slice-tells (named 0) (κs .0) T.the-row, (LL.tells O.the-type O′.the-laws, tt)))
@@ -161,7 +161,7 @@ module _ {M : Type 1} (𝓤 : URA M) (H : Heap 𝓤) (A : Atoms 𝓤) (W : Given
       walk 𝓤 H A W mem run (κs .0) (qs .0) (a .0) (a .1 .0) (are .1 .0) (are .0 .0 .1) asked C Λ fm known-put))
 
 finish-meets : {M : Type 1} (𝓤 : URA M) (H : Heap 𝓤) (A : Atoms 𝓤) → Given 𝓤 H A → (mem : Memory → SProp 𝓤) (run : Routine → Fun 𝓤) (𝓣 : Tables 𝓤 H)
-    → Triple 𝓤 (𝓣 .C #desk·steps·put-steps) (Put 𝓤 H A mem run)
+    → Triple 𝓤 (𝓣 .C #desk·chaining·put-steps) (Put 𝓤 H A mem run)
     → Meets 𝓤 H A f.signature (WpFn 𝓤 H (𝓣 .C) (𝓣 .Λ) code.function) (f.spec 𝓤 H A mem run)
 finish-meets 𝓤 H A W mem run 𝓣 known-put =
     walk-meets 𝓤 H A f.ended stayed W (goes-gave-slice 𝓤 H A W 1 0 tt (plain (λ _. T.the-row)), (goes-none 𝓤 H A W 1 (λ _. O.the-row) yes (λ κs x f. refl), tt)) (f.clauses 𝓤 H A mem run)
@@ -171,6 +171,6 @@ pub finish-spec : {M : Type 1} → stated.statement M
 unfolding code.routine tablesOf
 finish-spec 𝓤 H 𝓜 𝓖 𝓡 =
     entered 𝓤 H (tripleOf 𝓤 H (𝓖 .A) f.signature (f.spec 𝓤 H (𝓖 .A) (𝓜 .mem) (𝓡 .run)))
-    (tables 𝓤 H 𝓜 𝓡 code.env .C) (tables 𝓤 H 𝓜 𝓡 code.env .Λ) #desk·steps·finish code.function (code.unfolded 𝓤 H 𝓜 𝓡)
+    (tables 𝓤 H 𝓜 𝓡 code.env .C) (tables 𝓤 H 𝓜 𝓡 code.env .Λ) #desk·chaining·finish code.function (code.unfolded 𝓤 H 𝓜 𝓡)
     (finish-meets 𝓤 H (𝓖 .A) (givenOf 𝓤 H 𝓜 𝓖) (𝓜 .mem) (𝓡 .run) (tablesOf 𝓤 H 𝓜 (tables 𝓤 H 𝓜 𝓡 code.env))
-    (cited 𝓤 H (Put 𝓤 H (𝓖 .A) (𝓜 .mem) (𝓡 .run)) 𝓜 𝓡 code.env #desk·steps·put-steps put-def.routine code.calls-desk·steps·put-steps (put-thm.met 𝓤 H 𝓜 𝓖 𝓡)))
+    (cited 𝓤 H (Put 𝓤 H (𝓖 .A) (𝓜 .mem) (𝓡 .run)) 𝓜 𝓡 code.env #desk·chaining·put-steps put-def.routine code.calls-desk·chaining·put-steps (put-thm.met 𝓤 H 𝓜 𝓖 𝓡)))

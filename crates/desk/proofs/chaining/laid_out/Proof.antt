@@ -9,8 +9,8 @@ use Rattle.rules.specs.Chain.{stepLimit}
 use Rattle.chain.specs.StepList.{stepAt}
 use Rattle.desk.specs.Outcomes.{blanks}
 use Rattle.desk.proofs.Stored.{stored, laid}
-use Rattle.desk.proofs.steps.laid_out.Statement.{statement}
-use Rattle.desk.proofs.steps.laid_out.Tie as tie
+use Rattle.desk.proofs.chaining.laid_out.Statement.{statement}
+use Rattle.desk.proofs.chaining.laid_out.Tie as tie
 
 abbrev Inv-loop : tie.InvT-loop
 Inv-loop numbers n rows₀ i₀ rows i = (i ≤ n) × (rows ≡ stored (stepAt numbers) i (blanks stepLimit))

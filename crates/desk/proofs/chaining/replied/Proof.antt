@@ -1,7 +1,7 @@
 -- The answer as it is, its K steps laid out.
 use borrow.Author.Needs.{needs}
-use Rattle.desk.proofs.steps.replied.Statement.{statement}
-use Rattle.desk.proofs.steps.replied.Tie as tie
+use Rattle.desk.proofs.chaining.replied.Statement.{statement}
+use Rattle.desk.proofs.chaining.replied.Tie as tie
 
 count-of-requires : tie.Need-count-of-requires
 count-of-requires c κs = search needs
