@@ -150,8 +150,8 @@ pub extern "C" fn fluzzam_settle(
     bytes: &[u8],
     steps: &mut [u8],
 ) -> u64
-    ensures { λ r. ⌜ Settles (now (counts .entry)) (now (rows .entry)) (now (positions .entry)) (now (cash .entry)) lent (now (bytes .entry)) (now (steps .entry))
-        r (now (positions .exit)) (now (cash .exit)) (now (steps .exit)) ⌝ }
+    ensures { λ r. ⌜ Settles (now (counts .entry)) (now (rows .entry)) (now (positions .entry)) (now (cash .entry)) lent (now (bytes .entry))
+        (now (steps .entry)) r (now (positions .exit)) (now (cash .exit)) (now (steps .exit)) ⌝ }
 {
     if counts.len() != COUNTS {
         return MISFIT;
