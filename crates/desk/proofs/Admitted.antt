@@ -12,7 +12,7 @@ use Rattle.entries.specs.Names.{namesSize}
 use Rattle.entries.specs.Entered.{Kept}
 use Rattle.reading.specs.Read.{Reads, readDirectory, kept, nothingKept}
 use Rattle.reading.proofs.Sounds.{reading-sounds}
-use Rattle.desk.specs.Outcomes.{Admits}
+use Rattle.desk.specs.Early.{Admits}
 use Rattle.desk.proofs.Before.{early-unsound, early-none}
 
 -- lists of zeros

@@ -10,7 +10,7 @@ use Rattle.rules.specs.declared.Directory.{Directory}
 use Rattle.rules.specs.Tests.{Condition, _when_, lowest}
 use Rattle.rules.specs.Entries.{sound}
 use Rattle.rules.specs.Calls.{Store, Call, outcome, lentSteps, misfit, coreConditions, core, desk}
-use Rattle.desk.specs.Outcomes.{early}
+use Rattle.desk.specs.Early.{early}
 
 -- the first two conditions alone, then all
 module _ (b s : Bool) (cs : List Condition) where

@@ -38,7 +38,8 @@ use Rattle.booking.specs.Payments.{payOutcome}
 use Rattle.booking.specs.Settling.{settleOutcome, settleInto, Settles}
 use Rattle.booking.proofs.Calls.{movedOn, core-moves, paidOn, core-pays, settledOn, core-settles}
 use Rattle.booking.proofs.Settled.{settle-fits}
-use Rattle.desk.specs.Outcomes.{holding, early, Admits, movementOn, paymentOn, settlementOn, derivationOn, blanks, byValue, refusal, replyOf}
+use Rattle.rules.specs.Outcomes.{holding, movementOn, paymentOn, settlementOn, derivationOn, blanks, byValue, refusal, replyOf}
+use Rattle.desk.specs.Early.{early, Admits}
 use Rattle.desk.proofs.Before.{lowest-early, lowest-later, early-refused, early-passed}
 use Rattle.desk.proofs.Lent.{derives, settles, core-few}
 

@@ -14,7 +14,8 @@ use Rattle.rules.specs.Calls.{Store, Outcome, enter, outcome, misfit, core}
 use Rattle.rules.proofs.Tables.{Room, room}
 use Rattle.entries.specs.Entered.{Kept, refusalIn}
 use Rattle.entries.proofs.Refusing.{refusal-is}
-use Rattle.desk.specs.Outcomes.{holding, enteredOn, Admits}
+use Rattle.rules.specs.Outcomes.{holding, enteredOn}
+use Rattle.desk.specs.Early.{Admits}
 use Rattle.desk.proofs.Before.{early-refused, early-passed}
 
 module _ (d : Directory) (x : Row) where

@@ -2,6 +2,5 @@ pub mod Stored
 pub mod Lent
 pub mod Before
 pub mod Admitted
-pub mod Logs
 pub mod Entries
 pub mod Decided

@@ -10,7 +10,7 @@ use Rattle.rules.specs.declared.Steps.{Steps}
 use Rattle.rules.specs.Chain.{step, stepRows, stepLimit}
 use Rattle.rules.specs.Calls.{written}
 use Rattle.chain.specs.StepList.{stepAt, stepsIn}
-use Rattle.desk.specs.Outcomes.{blanks, byValue}
+use Rattle.rules.specs.Outcomes.{blanks, byValue}
 
 -- the list with the first k steps at its start
 abbrev pub stored : (ℕ → Step) → ℕ → List Step → List Step

@@ -18,7 +18,7 @@ use rules::Step;
 use rules::Steps;
 ghost use mathlib.Core.Path.{_≡_};
 ghost use Rattle.rules.specs.Chain.{stepLimit, step, stepRows};
-ghost use Rattle.desk.specs.Outcomes.{settlementOn, derivationOn, blanks, replyOf, byValue, refusal};
+ghost use Rattle.rules.specs.Outcomes.{settlementOn, derivationOn, blanks, replyOf, byValue, refusal};
 ghost use Prim.Native.Nat.{_≤_, _<_};
 ghost use lib.ListN.{length, getD};
 ghost use Rattle.rules.specs.Calls.{countOf, written};

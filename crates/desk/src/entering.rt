@@ -18,7 +18,7 @@ use rules::Security;
 ghost use mathlib.Core.Path.{_≡_};
 ghost use Rattle.rules.specs.declared.Answer.the-variants.{Accepted, Refused};
 ghost use Rattle.rules.specs.Entries.{csdRow, securityRow, accountRow, pairRow, linkRow, addRow};
-ghost use Rattle.desk.specs.Outcomes.{enteredOn};
+ghost use Rattle.rules.specs.Outcomes.{enteredOn};
 ghost use Prim.Native.Nat.{_<_};
 ghost use Rattle.rules.specs.Directory.{csdLimit, securityLimit, accountLimit, pairLimit, linkLimit};
 

@@ -31,7 +31,7 @@ use reading::read;
 use rules::Directory;
 ghost use mathlib.Core.Path.{_≡_};
 ghost use Rattle.reading.specs.Read.{kept, nothingKept};
-ghost use Rattle.desk.specs.Outcomes.{Admits};
+ghost use Rattle.desk.specs.Early.{Admits};
 
 // 3 where a lent list does not fit, else 4 where the directory is not sound, else 0, and what is kept of the directory then stands in both lists.
 fn early_refusal(

@@ -15,7 +15,7 @@ ghost use mathlib.Core.Path.{_≡_};
 ghost use Rattle.rules.specs.Booking.{incoming, outgoing};
 ghost use Rattle.rules.specs.Calls.{deskSecurityTotal, deskCashTotal};
 ghost use Rattle.booking.specs.Moves.{wayOf};
-ghost use Rattle.desk.specs.Outcomes.{movementOn, paymentOn};
+ghost use Rattle.rules.specs.Outcomes.{movementOn, paymentOn};
 
 // A bring-in or take-out.
 fn movement(

@@ -21,7 +21,7 @@ use Rattle.rules.specs.declared.CashTotal.the-variants.{SumCents, NoCents}
 use Rattle.rules.specs.Calls.{Outcome, desk, deskSecurityTotal, deskCashTotal}
 use Rattle.rules.specs.Stream.{halfAt}
 use Rattle.rules.proofs.Basics.{eqb-true, eqb-false, and-true, and-untrue}
-use Rattle.desk.specs.Outcomes.{holding, enteredOn, settlementOn, derivationOn, blanks, replyOf}
+use Rattle.rules.specs.Outcomes.{holding, enteredOn, settlementOn, derivationOn, blanks, replyOf}
 use Rattle.probe.specs.Codes.{codeOf}
 use Rattle.layout.specs.Layout.{countsLength, rowsLength, stepsLength, directoryIn, countsOf, bytesOf, bytesOfSteps, filled}
 use Rattle.probe.specs.Exports.{misfit, fits, fitsSteps, fitsSum, rowOf, moveOf, enters, moves, settles, derives, unitsCode, unitsLeft, centsCode, centsLeft}

@@ -8,7 +8,7 @@ use Rattle.rules.specs.declared.Answer.{Answer}
 use Rattle.rules.specs.Tests.{lowest}
 use Rattle.rules.specs.Booking.{Way}
 use Rattle.rules.specs.Calls.{Store, Call, move, pay, outcome, misfit, deskConditions, desk}
-use Rattle.desk.specs.Outcomes.{holding, movementOn, paymentOn}
+use Rattle.rules.specs.Outcomes.{holding, movementOn, paymentOn}
 
 -- what a call on the store answers and leaves
 abbrev pub Leaves : Call → Store → Answer → List ℤ → List ℤ → Type 0

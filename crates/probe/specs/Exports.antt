@@ -16,7 +16,7 @@ use Rattle.rules.specs.Booking.{incoming, outgoing}
 use Rattle.rules.specs.Calls.{Call, Outcome, desk, deskSecurityTotal, deskCashTotal}
 use Rattle.rules.specs.Stream.{accountAt, pairAt, linkAt, moveAt, payAt, halfAt}
 use Rattle.wire.specs.Operands.{csdIn, securityIn}
-use Rattle.desk.specs.Outcomes.{holding, enteredOn, settlementOn, derivationOn, blanks, replyOf}
+use Rattle.rules.specs.Outcomes.{holding, enteredOn, settlementOn, derivationOn, blanks, replyOf}
 use Rattle.probe.specs.Codes.{codeOf}
 use Rattle.layout.specs.Layout.{countsLength, rowsLength, stepsLength, directoryIn, countsOf, bytesOf, bytesOfSteps}
 

@@ -19,8 +19,8 @@ ghost use Prim.Native.Nat.{_+_, _<_};
 ghost use Rattle.rules.specs.Calls.{desk};
 ghost use Rattle.rules.specs.Stream.{transcript};
 ghost use Rattle.probe.specs.Codes.{capped, codeOf};
-ghost use Rattle.stream.specs.Printed.{Printed};
-ghost use Rattle.desk.specs.Outcomes.{holding, enteredOn};
+ghost use Rattle.rules.specs.Stream.{Printed};
+ghost use Rattle.rules.specs.Outcomes.{holding, enteredOn};
 ghost use Rattle.layout.specs.Layout.{stepsLength, bytesOfSteps, filled};
 ghost use Rattle.probe.specs.Exports.{rowOf, moveOf, Enters, Moves, Settles, Derives, TotalsUnits, TotalsCents};
 

@@ -57,3 +57,4 @@ pub mod Kept
 pub mod Lists
 pub mod Theorems
 pub mod Running
+pub mod Logs

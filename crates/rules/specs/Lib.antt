@@ -12,3 +12,5 @@ pub mod Stream
 pub mod Relations
 pub mod Demands
 pub mod Examples
+pub mod Outcomes
+pub mod Logs

@@ -1,7 +1,8 @@
 -- Commands and program, as document 01 has them: operands, commands, and the whole text that `realign` prints. Assumes nothing.
-use Prim.Native.Nat.{ℕ, zero, suc, _+_, _*_, _-_, _/_, _%_}
+use Prim.Native.Nat.{ℕ, zero, suc, _+_, _*_, _-_, _/_, _%_, _≤_, _<_}
 use Prim.Native.Char.{code}
 use Prim.Native.String.{String, [] as none′, _∷_ as _then_}
+use mathlib.Core.Path.{_≡_}
 use mathlib.Core.Bool.{cond}
 use mathlib.Core.List.{List, [], _∷_, _++_}
 use mathlib.Core.Option.{Option, none, some}
@@ -210,3 +211,17 @@ inputLimit = 65_536
 -- no more commands than bytes
 unfoldable pub transcript : List ℕ → List ℕ
 transcript s = cond (ltb inputLimit (length s)) (bytes "too long\n") (linesFrom (length s) 1 s emptyStore)
+
+-- ---- what a run leaves in its output
+
+-- bytes that hold any transcript: at most 6 for a byte of input, a stop and the end
+abbrev pub room : ℕ
+room = 400_000
+
+-- The text stands at the front of the output, which ends where the answer r says; an output that is too short is as it was.
+pub record Printed (text before after : List ℕ) (r : ℕ) : Type 0 where
+  pub prints : room ≤ length before → (r ≡ length text) × (take r after ≡ text)
+  pub refuses : length before < room → (r ≡ 0) × (after ≡ before)
+  -- the front is a part of the output that can be lent
+  pub inside : r ≤ length after
+  pub whole : r ≡ length (take r after)

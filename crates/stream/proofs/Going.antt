@@ -30,7 +30,7 @@ use Rattle.stream.specs.declared.turns.Turn.{Turn}
 use Rattle.stream.specs.Obeyed.{Held, held, Holds}
 use Rattle.stream.specs.Turns.{Told, told, Takes}
 use Rattle.stream.specs.Ending.{endingIn}
-use Rattle.stream.specs.Printed.{room, Printed}
+use Rattle.rules.specs.Stream.{room, Printed}
 use Rattle.stream.proofs.Keeping.{Bounded, empty-bounded}
 use Rattle.stream.proofs.Totals.{ending-is, totalled}
 use Rattle.stream.proofs.Turned.{Turned, turned, lines-end}

@@ -26,7 +26,7 @@ ghost use Rattle.index.specs.Asked.{asked};
 ghost use Rattle.text.specs.Appended.{Appended};
 ghost use Rattle.stream.specs.Obeyed.{keptIn};
 ghost use Rattle.stream.specs.Ending.{unitsIn, centsIn, totalsIn, securitiesIn, endingIn};
-ghost use Rattle.stream.specs.Printed.{Printed};
+ghost use Rattle.rules.specs.Stream.{Printed};
 
 pub mod commands; // commands.rt: one command's operands decoded, and its call made
 pub mod turns; // turns.rt: the command at a place, and its lines

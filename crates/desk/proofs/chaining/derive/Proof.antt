@@ -44,7 +44,7 @@ use Rattle.rules.specs.declared.Reply.{Reply}
 use Rattle.rules.specs.declared.Answer.{Answer}
 use Rattle.rules.specs.Chain.{stepRows}
 use Rattle.rules.specs.Calls.{Outcome, written}
-use Rattle.desk.specs.Outcomes.{derivationOn, blanks, replyOf}
+use Rattle.rules.specs.Outcomes.{derivationOn, blanks, replyOf}
 use Rattle.desk.proofs.Lent.{Serves, derivation-serves}
 use Rattle.rules.proofs.Step as T
 use Rattle.rules.proofs.Directory as D

@@ -7,7 +7,7 @@ use denote.Ref.{now}
 use native.Mathlib.Numerals.{add-one}
 use Rattle.rules.specs.Chain.{stepLimit}
 use Rattle.chain.specs.StepList.{stepAt}
-use Rattle.desk.specs.Outcomes.{blanks}
+use Rattle.rules.specs.Outcomes.{blanks}
 use Rattle.desk.proofs.Stored.{stored, laid}
 use Rattle.desk.proofs.chaining.laid_out.Statement.{statement}
 use Rattle.desk.proofs.chaining.laid_out.Tie as tie

@@ -45,7 +45,7 @@ use Rattle.rules.specs.declared.Reply.{Reply}
 use Rattle.rules.specs.declared.Answer.{Answer}
 use Rattle.rules.specs.Chain.{stepRows}
 use Rattle.rules.specs.Calls.{Store, Outcome, written}
-use Rattle.desk.specs.Outcomes.{settlementOn, blanks, replyOf}
+use Rattle.rules.specs.Outcomes.{settlementOn, blanks, replyOf}
 use Rattle.desk.proofs.Lent.{Serves, settlement-serves, settlement-store}
 use Rattle.rules.proofs.Step as T
 use Rattle.rules.proofs.Directory as D

@@ -2,7 +2,7 @@
 use mathlib.Core.Path.{ap, _∙_}
 use native.Mathlib.Omega.{arith}
 use Rattle.rules.specs.Entries.{csdRow, securityRow}
-use Rattle.desk.specs.Outcomes.{enteredOn}
+use Rattle.rules.specs.Outcomes.{enteredOn}
 use Rattle.probe.proofs.Tags.{csd-row, security-row, account-row, pair-row, link-row}
 use borrow.Author.Needs.{needs}
 use Rattle.probe.proofs.calls.entry.Statement.{statement}

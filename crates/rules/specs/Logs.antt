@@ -3,17 +3,13 @@ use Prim.Native.Nat.{ℕ}
 use mathlib.Core.Path.{_≡_}
 use mathlib.Core.List.{List, [], _∷_}
 use lib.IntN.{ℤ}
-use Rattle.rules.specs.declared.Half.{Half}
-use Rattle.rules.specs.declared.Step.{Step}
-use Rattle.rules.specs.declared.Answer.{Answer}
-use Rattle.rules.specs.declared.Entered.{Entered}
-use Rattle.rules.specs.declared.Reply.{Reply}
+use Rattle.rules.specs.Types.{Half, Step, Answer, Entered, Reply}
 use Rattle.rules.specs.Entries.{Row}
 use Rattle.rules.specs.Chain.{stepLimit}
 use Rattle.rules.specs.Booking.{Way}
 use Rattle.rules.specs.Calls.{Store, Call, enter, move, pay, settle, derive, Item, item, emptyStore}
 use Rattle.rules.specs.Demands.{Log, Balanced}
-use Rattle.desk.specs.Outcomes.{holding, enteredOn, movementOn, paymentOn, settlementOn, derivationOn, blanks, replyOf}
+use Rattle.rules.specs.Outcomes.{holding, enteredOn, movementOn, paymentOn, settlementOn, derivationOn, blanks, replyOf}
 
 -- A call of a desk's function on the store st: the call, the answer r and the store that it left. Each case has the words of the
 -- functions' `ensures`; what a function is not handed stays as it is.

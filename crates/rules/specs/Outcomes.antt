@@ -1,24 +1,14 @@
 -- What each of the desk's functions answers and leaves: the outcome of the rules' call on what the function is handed. A list that a
 -- function is not handed is empty here; proofs/Logs.antt says that it counts for nothing. Assumes nothing.
 use Prim.Native.Nat.{ℕ}
-use mathlib.Core.Path.{_≡_}
-use mathlib.Core.Bool.{Bool, not}
-use mathlib.Core.List.{List, [], _∷_}
+use mathlib.Core.List.{List, []}
 use lib.IntN.{ℤ}
 use lib.ListN.{length, replicate, take}
-use Rattle.rules.specs.declared.Directory.{Directory}
-use Rattle.rules.specs.declared.Half.{Half}
-use Rattle.rules.specs.declared.Step.{Step}
-use Rattle.rules.specs.declared.Steps.{Steps}
-use Rattle.rules.specs.declared.Reply.{Reply}
-use Rattle.rules.specs.declared.Answer.the-variants.{Refused}
-use Rattle.rules.specs.declared.Entered.{Entered}
-use Rattle.rules.specs.Tests.{_when_, lowest}
-use Rattle.rules.specs.Entries.{Row, sound}
+use Rattle.rules.specs.Types.{Directory, Half, Step, Steps, Reply, Refused, Entered}
+use Rattle.rules.specs.Entries.{Row}
 use Rattle.rules.specs.Chain.{step, stepLimit}
 use Rattle.rules.specs.Booking.{Way}
 use Rattle.rules.specs.Calls.{Store, Outcome, enter, move, pay, settle, derive, desk, countOf, written}
-use Rattle.entries.specs.Entered.{Kept, Keeps}
 
 -- the store that a function is handed
 abbrev pub holding : Directory → List ℤ → List ℤ → Store
@@ -43,15 +33,6 @@ settlementOn d p c lent h g = desk (settle h g lent) (holding d p c)
 -- a derivation that is lent steps
 abbrev pub derivationOn : Directory → List Step → Half → Half → Outcome
 derivationOn d lent h g = desk (derive h g lent) (holding d [] [])
-
--- 3 where a list that a call is lent does not fit, else 4 where the directory is not sound, else 0
-abbrev pub early : Bool → Directory → ℕ
-early misfit d = lowest (3 when misfit ∷ 4 when not (sound d) ∷ [])
-
--- n is the number that 3 and 4 give; where it is 0, k is kept of the directory
-pub record Admits (misfit : Bool) (d : Directory) (n : ℕ) (k : Kept) : Type 0 where
-  pub number : n ≡ early misfit d
-  pub keeps : n ≡ 0 → Keeps k d
 
 -- what an entry answers, and the directory after it
 abbrev pub enteredOn : Directory → Row → Entered

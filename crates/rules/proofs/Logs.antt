@@ -3,21 +3,17 @@ use Prim.Native.Nat.{ℕ, zero, suc}
 use mathlib.Core.Path.{_≡_, refl, ap, _∙_}
 use mathlib.Core.List.{List, []}
 use lib.IntN.{ℤ}
-use Rattle.rules.specs.declared.Half.{Half}
-use Rattle.rules.specs.declared.Step.{Step}
-use Rattle.rules.specs.declared.Answer.{Answer}
-use Rattle.rules.specs.declared.Entered.{Entered}
-use Rattle.rules.specs.declared.Reply.{Reply}
+use Rattle.rules.specs.Types.{Half, Step, Answer, Entered, Reply}
 use Rattle.rules.specs.Tests.{lowest}
 use Rattle.rules.specs.Entries.{Row}
 use Rattle.rules.specs.Chain.{stepLimit}
 use Rattle.rules.specs.Booking.{Way}
 use Rattle.rules.specs.Calls.{Store, Call, enter, move, pay, settle, derive, outcome, misfit, deskConditions, desk}
 use Rattle.rules.specs.Demands.{begins, calls}
 use Rattle.rules.proofs.Theorems.{demand3}
-use Rattle.desk.specs.Outcomes.{holding, derivationOn, blanks}
-use Rattle.desk.specs.Logs as desk-log
-use Rattle.desk.specs.Logs.{Made, entered, moved, paid, settled, settledByValue, derived, derivedByValue, DeskLogs, DeskBalances}
+use Rattle.rules.specs.Outcomes.{holding, derivationOn, blanks}
+use Rattle.rules.specs.Logs as desk-log
+use Rattle.rules.specs.Logs.{Made, entered, moved, paid, settled, settledByValue, derived, derivedByValue, DeskLogs, DeskBalances}
 
 -- what demand 3 asks of a call of a log
 pub record Asked (st : Store) (c : Call) (r : Answer) (left : Store) : Type 0 where
