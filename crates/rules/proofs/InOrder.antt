@@ -19,10 +19,10 @@ module _ {A : Type 0} (refusal : List A → A → ℕ) where
     pub accepted : refusal after x ≡ 0
     pub holds : (y : A) → List·Memᴰ y before → List·Memᴰ y after
 
-  first : (before rows : List A) (x : A) → eachAfter (accepts refusal) before (x ∷ rows) ≡ true → refusal before x ≡ 0
+  pub first : (before rows : List A) (x : A) → eachAfter (accepts refusal) before (x ∷ rows) ≡ true → refusal before x ≡ 0
   first before rows x e = eqb-is (refusal before x) 0 (and-both (accepts refusal before x) (eachAfter (accepts refusal) (before ++ (x ∷ [])) rows) e .0)
 
-  rest : (before rows : List A) (x : A) → eachAfter (accepts refusal) before (x ∷ rows) ≡ true → eachAfter (accepts refusal) (before ++ (x ∷ [])) rows ≡ true
+  pub rest : (before rows : List A) (x : A) → eachAfter (accepts refusal) before (x ∷ rows) ≡ true → eachAfter (accepts refusal) (before ++ (x ∷ [])) rows ≡ true
   rest before rows x e = and-both (accepts refusal before x) (eachAfter (accepts refusal) (before ++ (x ∷ [])) rows) e .1
 
   pub judged : (before rows : List A) → eachAfter (accepts refusal) before rows ≡ true → (x : A) → List·Memᴰ x rows → Judged before x

@@ -2,6 +2,14 @@ pub mod Basics
 pub mod Int
 pub mod Sums
 pub mod Several
+pub mod Reflection
+pub mod Places
+pub mod RowTests
+pub mod IdentifierRelation
+pub mod EntryRelation
+pub mod PairRelation
+pub mod LinkRelation
+pub mod SoundRelation
 pub mod FirstRow
 pub mod Identifiers
 pub mod Examples

@@ -10,6 +10,7 @@ pub mod Booking
 pub mod Calls
 pub mod Stream
 pub mod Relations
+pub mod Refusals
 pub mod Demands
 pub mod Examples
 pub mod Outcomes

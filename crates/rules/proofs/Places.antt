@@ -1,0 +1,67 @@
+-- Conditions in the order of places: where each test says its number's proposition once those before it fail, the number given is the
+-- first that applies.
+use mathlib.Core.Path.{_≡_, refl}
+use mathlib.Core.Bool.{Bool, true, false, cond}
+use mathlib.Core.List.{List, [], _∷_, List·Memᴰ, List·Memᴰ·head, List·Memᴰ·tail}
+use Prim.Native.Nat.{ℕ, zero, suc}
+use native.Mathlib.Omega.{arith}
+use Rattle.rules.specs.Tests.{Condition, _when_, lowest}
+use Rattle.rules.specs.Refusals.{First, now, later}
+use Rattle.rules.proofs.Basics.{clash}
+use Rattle.rules.proofs.Reflection.{Says, says-as, denies, denied}
+
+-- the conditions cs render the propositions P of the numbers ns
+pub data Renders (P : ℕ → Type 0) : List Condition → List ℕ → Type 0 where
+  end : Renders P [] []
+  skip : {m : ℕ} {ns : List ℕ} {cs : List Condition} → (P m → ⊥) → Renders P cs ns → Renders P cs (m ∷ ns)
+  test : {m : ℕ} {b : Bool} {ns : List ℕ} {cs : List Condition} → Says (P (suc m)) b → (b ≡ false → Renders P cs ns)
+      → Renders P ((suc m when b) ∷ cs) (suc m ∷ ns)
+
+-- a condition that holds ends the list: nothing behind it is asked
+pub stop : {P : ℕ → Type 0} {m : ℕ} {ns : List ℕ} {cs : List Condition} → P (suc m) → Renders P ((suc m when true) ∷ cs) (suc m ∷ ns)
+stop p = test (record { holds = λ e. p; tests = λ q. refl }) (λ e. absurd (clash true refl e))
+
+module _ {P : ℕ → Type 0} where
+  -- where no condition holds, no number applies
+  pub none-applies : {cs : List Condition} {ns : List ℕ} → Renders P cs ns → lowest cs ≡ 0 → (n : ℕ) → List·Memᴰ n ns → P n → ⊥
+  none-applies (skip never r) e n (List·Memᴰ·head h) p = never (rw h at p)
+  none-applies (skip never r) e n (List·Memᴰ·tail i) p = none-applies r e n i p
+  none-applies (test {m = m} {b = b} {ns = ns} {cs = cs} S r) e n i p = go b refl e i (λ f g j. none-applies (r f) g n j p)
+    where
+      go : (x : Bool) → b ≡ x → cond x (suc m) (lowest cs) ≡ 0 → List·Memᴰ n (suc m ∷ ns) → (b ≡ false → lowest cs ≡ 0 → List·Memᴰ n ns → ⊥) → ⊥
+      go true f g j below = omega arith
+      go false f g (List·Memᴰ·head h) below = denies b S f (rw h at p)
+      go false f g (List·Memᴰ·tail j) below = below f g j
+
+  -- where no number applies, no condition holds
+  pub none-holds : {cs : List Condition} {ns : List ℕ} → Renders P cs ns → ((n : ℕ) → List·Memᴰ n ns → P n → ⊥) → lowest cs ≡ 0
+  none-holds end clear = refl
+  none-holds (skip k r) clear = none-holds r (λ n i. clear n (List·Memᴰ·tail i))
+  none-holds (test {m = m} {b = b} S r) clear =
+      let f : b ≡ false = denied b S (clear (suc m) (List·Memᴰ·head refl)) in rw f (none-holds (r f) (λ n i. clear n (List·Memᴰ·tail i)))
+
+  -- the number given is the first that applies
+  pub given-first : {cs : List Condition} {ns : List ℕ} → Renders P cs ns → (n : ℕ) → lowest cs ≡ suc n → First P (suc n) ns
+  given-first end n e = absurd (omega arith)
+  given-first (skip never r) n e = later never (given-first r n e)
+  given-first (test {m = m} {b = b} {ns = ns} {cs = cs} S r) n e = go b refl e (λ f g. given-first (r f) n g)
+    where
+      go : (x : Bool) → b ≡ x → cond x (suc m) (lowest cs) ≡ suc n → (b ≡ false → lowest cs ≡ suc n → First P (suc n) ns) → First P (suc n) (suc m ∷ ns)
+      go true f g below = rw (← g) (now (S .holds f))
+      go false f g below = later (denies b S f) (below f g)
+
+  -- the first that applies is the number given
+  pub first-given : {cs : List Condition} {ns : List ℕ} → Renders P cs ns → (n : ℕ) → First P n ns → lowest cs ≡ n
+  first-given (skip never r) n (now p) = absurd (never p)
+  first-given (skip never r) n (later k f) = first-given r n f
+  first-given (test S r) n (now p) = rw (S .tests p)
+  first-given (test {b = b} S r) n (later k f) = let e : b ≡ false = denied b S k in rw e (first-given (r e) n f)
+
+-- the same of propositions that say the same
+pub renders-as : {P Q : ℕ → Type 0} {cs : List Condition} {ns : List ℕ} → ((n : ℕ) → List·Memᴰ n ns → P n → Q n) → ((n : ℕ) → List·Memᴰ n ns → Q n → P n)
+    → Renders P cs ns → Renders Q cs ns
+renders-as f g end = end
+renders-as f g (skip {m = m} never r) = skip (λ q. never (g m (List·Memᴰ·head refl) q)) (renders-as (λ n i. f n (List·Memᴰ·tail i)) (λ n i. g n (List·Memᴰ·tail i)) r)
+renders-as f g (test {m = m} S r) =
+    test (says-as S (f (suc m) (List·Memᴰ·head refl)) (g (suc m) (List·Memᴰ·head refl)))
+    (λ e. renders-as (λ n i. f n (List·Memᴰ·tail i)) (λ n i. g n (List·Memᴰ·tail i)) (r e))

@@ -1,0 +1,366 @@
+-- What refuses a call, in document 01's words: for each call and each number of 'Refusals by place' a constructor for every way in which the
+-- number applies. Nothing is computed here; demand 2 says that the conditions of Entries, Booking and Calls hold exactly where these do.
+use mathlib.Core.Path.{_≡_}
+use mathlib.Core.Logic.{_≢_, _⊎_}
+use mathlib.Core.List.{List, [], _∷_, _++_, reverse, List·Memᴰ}
+use mathlib.Core.Option.{some}
+use Prim.Native.Nat.{ℕ, _+_, _*_, _≤_, _<_}
+use lib.IntN.{ℤ, pos, negℤ, _+ℤ_, _-ℤ_}
+use lib.Signed.{_<ℤ_}
+use lib.ListN.{length, take, getElem?}
+use Rattle.rules.specs.Types.{Csd, Security, Account, Pair, Link, Directory, Half, Step, WalkEnd, Inside, Outside, NoLink, Join}
+use Rattle.rules.specs.Identifiers.{byteAt}
+use Rattle.rules.specs.Directory.{Rows, rowsOf, csdLimit, securityLimit, accountLimit, pairLimit, linkLimit, noCsd, noAccount}
+use Rattle.rules.specs.Lookups.{homeOf}
+use Rattle.rules.specs.Entries.{Row, csdRow, securityRow, accountRow, pairRow, linkRow}
+use Rattle.rules.specs.Chain.{stepLimit}
+use Rattle.rules.specs.Booking.{Way, outgoing, limit, positionCount, cashCount, heldIn, cashOn, moveStep, payment}
+use Rattle.rules.specs.Calls.{Store, Call, enter, move, pay, settle, derive}
+use Rattle.rules.specs.Relations.{IssuerOf, DefaultOf, LinkTo, NoIssuer, DefaultWalk, NoMeeting, NoDirected, Joins, ChainIs}
+
+-- ---- the numbers
+
+-- "Refusals by place": the numbers in the order of their places
+abbrev pub places : List ℕ
+places = 3 ∷ 4 ∷ 5 ∷ 6 ∷ 7 ∷ 8 ∷ 9 ∷ 10 ∷ 11 ∷ 12 ∷ 13 ∷ 14 ∷ 15 ∷ 16 ∷ 17 ∷ 18 ∷ 19 ∷ 20 ∷ 21 ∷ 22 ∷ []
+
+-- none of them applies
+abbrev pub NoneApplies : (ℕ → Type 0) → Type 0
+NoneApplies applies = (n : ℕ) → List·Memᴰ n places → applies n → ⊥
+
+-- n applies, and no number before it does
+pub data First (applies : ℕ → Type 0) (n : ℕ) : List ℕ → Type 0 where
+  now : {ns : List ℕ} → applies n → First applies n (n ∷ ns)
+  later : {m : ℕ} {ns : List ℕ} → (applies m → ⊥) → First applies n ns → First applies n (m ∷ ns)
+
+-- ---- rows
+
+-- row n of a table is x: "numbered from 0 by entry"
+abbrev pub Is : {A : Type 0} → List A → ℕ → A → Type 0
+Is rows n x = getElem? rows n ≡ some x
+
+-- the "number names no row"
+abbrev pub NoRow : {A : Type 0} → List A → ℕ → Type 0
+NoRow rows n = length rows ≤ n
+
+-- "type 0 in T2S, 1 external"
+abbrev pub External : List Csd → ℕ → Type 0
+External cs c = (x : Csd) × Is cs c x × (x .external ≡ 1)
+
+-- in T2S is what is not external
+abbrev pub InT2S : List Csd → ℕ → Type 0
+InT2S cs c = External cs c → ⊥
+
+-- a participant or omnibus account
+abbrev pub ParticipantOrOmnibus : List Account → ℕ → Type 0
+ParticipantOrOmnibus acc a = (x : Account) × Is acc a x × ((x .kind ≡ 0) ⊎ (x .kind ≡ 1))
+
+-- "beyond ±10^15"
+abbrev pub Beyond : ℤ → Type 0
+Beyond z = (pos limit <ℤ z) ⊎ (z <ℤ negℤ (pos limit))
+
+-- ---- BIC and ISIN
+
+-- A to Z
+abbrev pub Capital : ℕ → Type 0
+Capital c = (65 ≤ c) × (c ≤ 90)
+
+-- 0 to 9
+abbrev pub Digit : ℕ → Type 0
+Digit c = (48 ≤ c) × (c ≤ 57)
+
+-- "capitals or digits"
+abbrev pub CapitalOrDigit : ℕ → Type 0
+CapitalOrDigit c = Capital c ⊎ Digit c
+
+-- "Two BICs are the same when their first 8 bytes are."
+abbrev pub SameBic : List ℕ → List ℕ → Type 0
+SameBic a b = (k : ℕ) → k < 8 → byteAt a k ≡ byteAt b k
+
+-- two ISINs are the same when all 12 bytes are
+abbrev pub SameIsin : List ℕ → List ℕ → Type 0
+SameIsin a b = (k : ℕ) → k < 12 → byteAt a k ≡ byteAt b k
+
+-- characters and the digits that they give: "Letters become 10 to 35, each written as two digits"
+pub data Spelt : List ℕ → List ℕ → Type 0 where
+  none : Spelt [] []
+  letter : {c : ℕ} {cs ds : List ℕ} (t u : ℕ) → Capital c → c ≡ 55 + (10 * t + u) → u < 10 → Spelt cs ds → Spelt (c ∷ cs) (t ∷ u ∷ ds)
+  digit : {c d : ℕ} {cs ds : List ℕ} → Digit c → c ≡ 48 + d → Spelt cs ds → Spelt (c ∷ cs) (d ∷ ds)
+
+-- digits from the right and their sum: "every other digit, the first included, is doubled and its digits added"
+pub data Adds : List ℕ → ℕ → Type 0 where
+  none : Adds [] 0
+  one : {d : ℕ} (t u : ℕ) → 2 * d ≡ 10 * t + u → u < 10 → Adds (d ∷ []) (t + u)
+  two : {d e n : ℕ} {ds : List ℕ} (t u : ℕ) → 2 * d ≡ 10 * t + u → u < 10 → Adds ds n → Adds (d ∷ e ∷ ds) (t + u + (e + n))
+
+-- ---- the five entries, after the rows before them
+
+-- 01: a CSD
+pub data CsdRefused (cs : List Csd) (x : Csd) : ℕ → Type 0 where
+  csdsFull : csdLimit ≤ length cs → CsdRefused cs x 5
+  neitherType : x .external ≢ 0 → x .external ≢ 1 → CsdRefused cs x 7
+  noBic : (k : ℕ) → k < 11 → (CapitalOrDigit (byteAt (x .bic) k) → ⊥) → CsdRefused cs x 7
+  bicEntered : (y : Csd) → List·Memᴰ y cs → SameBic (y .bic) (x .bic) → CsdRefused cs x 9
+
+-- 02: a security
+pub data SecurityRefused (ss : List Security) (x : Security) : ℕ → Type 0 where
+  securitiesFull : securityLimit ≤ length ss → SecurityRefused ss x 5
+  noCapital : (k : ℕ) → k < 2 → (Capital (byteAt (x .isin) k) → ⊥) → SecurityRefused ss x 7
+  noCapitalOrDigit : (k : ℕ) → 2 ≤ k → k < 11 → (CapitalOrDigit (byteAt (x .isin) k) → ⊥) → SecurityRefused ss x 7
+  noCheckDigit : (Digit (byteAt (x .isin) 11) → ⊥) → SecurityRefused ss x 7
+  -- "with the check digit the sum is a multiple of 10"
+  wrongCheckDigit : (ds : List ℕ) (sum check : ℕ) → Spelt (take 11 (x .isin)) ds → Adds (reverse ds) sum → byteAt (x .isin) 11 ≡ 48 + check
+      → ((m : ℕ) → sum + check ≢ 10 * m) → SecurityRefused ss x 8
+  isinEntered : (y : Security) → List·Memᴰ y ss → SameIsin (y .isin) (x .isin) → SecurityRefused ss x 9
+
+-- 03: an account
+pub data AccountRefused (cs : List Csd) (acc : List Account) (x : Account) : ℕ → Type 0 where
+  accountsFull : accountLimit ≤ length acc → AccountRefused cs acc x 5
+  homeUnknown : NoRow cs (x .csd) → AccountRefused cs acc x 6
+  noKind : 4 < x .kind → AccountRefused cs acc x 7
+  homeExternal : External cs (x .csd) → AccountRefused cs acc x 10
+
+-- the account is in a pair; hex FFFF "never counts as already entered or shared"
+pub data Paired (ps : List Pair) (a : ℕ) : Type 0 where
+  asMirror : (p : Pair) → List·Memᴰ p ps → p .mirror ≡ a → a ≢ noAccount → Paired ps a
+  asOmnibus : (p : Pair) → List·Memᴰ p ps → p .omnibus ≡ a → a ≢ noAccount → Paired ps a
+
+-- no pair of an investor and a technical issuer is entered
+abbrev pub NoPair : List Pair → ℕ → ℕ → Type 0
+NoPair ps i t = (p : Pair) → List·Memᴰ p ps → p .investor ≡ i → p .technical ≢ t
+
+-- 04: a pair. "Technical issuer in T2S: a mirror in the investor's books, an omnibus in the other's. External: an inter-CSD account, and
+-- hex FFFF for none."
+pub data PairRefused (cs : List Csd) (acc : List Account) (ps : List Pair) (x : Pair) : ℕ → Type 0 where
+  pairsFull : pairLimit ≤ length ps → PairRefused cs acc ps x 5
+  investorUnknown : NoRow cs (x .investor) → PairRefused cs acc ps x 6
+  technicalUnknown : NoRow cs (x .technical) → PairRefused cs acc ps x 6
+  firstUnknown : NoRow acc (x .mirror) → PairRefused cs acc ps x 6
+  secondUnknown : NoRow acc (x .omnibus) → x .omnibus ≢ noAccount → PairRefused cs acc ps x 6
+  secondDue : NoRow acc (x .omnibus) → InT2S cs (x .technical) → PairRefused cs acc ps x 6
+  pairEntered : (p : Pair) → List·Memᴰ p ps → p .investor ≡ x .investor → p .technical ≡ x .technical → PairRefused cs acc ps x 9
+  firstPaired : Paired ps (x .mirror) → PairRefused cs acc ps x 9
+  secondPaired : Paired ps (x .omnibus) → PairRefused cs acc ps x 9
+  firstOfOther : (y : Account) → Is acc (x .mirror) y → y .csd ≢ x .investor → PairRefused cs acc ps x 10
+  noInterCsd : External cs (x .technical) → (y : Account) → Is acc (x .mirror) y → y .kind ≢ 3 → PairRefused cs acc ps x 10
+  noMirror : InT2S cs (x .technical) → (y : Account) → Is acc (x .mirror) y → y .kind ≢ 2 → PairRefused cs acc ps x 10
+  secondOfOther : InT2S cs (x .technical) → (y : Account) → Is acc (x .omnibus) y → y .csd ≢ x .technical → PairRefused cs acc ps x 10
+  noOmnibus : InT2S cs (x .technical) → (y : Account) → Is acc (x .omnibus) y → y .kind ≢ 1 → PairRefused cs acc ps x 10
+  sameCsd : x .investor ≡ x .technical → PairRefused cs acc ps x 11
+  secondNotDue : External cs (x .technical) → x .omnibus ≢ noAccount → PairRefused cs acc ps x 11
+
+-- an entered link of the CSD for the security
+pub record Linked (ls : List Link) (s c : ℕ) (l : Link) : Type 0 where
+  pub entered : List·Memᴰ l ls
+  pub security : l .security ≡ s
+  pub csd : l .csd ≡ c
+
+-- 05: a link
+pub data LinkRefused (cs : List Csd) (ss : List Security) (acc : List Account) (ls : List Link) (x : Link) : ℕ → Type 0 where
+  linksFull : linkLimit ≤ length ls → LinkRefused cs ss acc ls x 5
+  securityUnknown : NoRow ss (x .security) → LinkRefused cs ss acc ls x 6
+  csdUnknown : NoRow cs (x .csd) → LinkRefused cs ss acc ls x 6
+  issuerUnknown : NoRow cs (x .technical) → x .technical ≢ noCsd → LinkRefused cs ss acc ls x 6
+  issuerDue : NoRow cs (x .technical) → x .kind ≡ 1 → LinkRefused cs ss acc ls x 6
+  accountUnknown : NoRow acc (x .account) → x .account ≢ noAccount → LinkRefused cs ss acc ls x 6
+  accountDue : NoRow acc (x .account) → x .kind ≡ 0 → InT2S cs (x .csd) → LinkRefused cs ss acc ls x 6
+  neitherKind : x .kind ≢ 0 → x .kind ≢ 1 → LinkRefused cs ss acc ls x 7
+  neitherFlag : x .flag ≢ 0 → x .flag ≢ 1 → LinkRefused cs ss acc ls x 7
+  issuerEntered : (l : Link) → LinkTo cs ls (x .security) (x .technical) (x .csd) l → x .technical ≢ noCsd → LinkRefused cs ss acc ls x 9
+  -- "An issuer link has technical issuer hex FF, flag 1, and an issuance account of its CSD (hex FFFF if external); that CSD has no other
+  -- link for the security."
+  accountOfOther : x .kind ≡ 0 → InT2S cs (x .csd) → (y : Account) → Is acc (x .account) y → y .csd ≢ x .csd → LinkRefused cs ss acc ls x 10
+  noIssuance : x .kind ≡ 0 → InT2S cs (x .csd) → (y : Account) → Is acc (x .account) y → y .kind ≢ 4 → LinkRefused cs ss acc ls x 10
+  issuerNotDue : x .kind ≡ 0 → x .technical ≢ noCsd → LinkRefused cs ss acc ls x 11
+  issuerFlag : x .kind ≡ 0 → x .flag ≢ 1 → LinkRefused cs ss acc ls x 11
+  accountNotDue : x .kind ≡ 0 → External cs (x .csd) → x .account ≢ noAccount → LinkRefused cs ss acc ls x 11
+  besideLink : x .kind ≡ 0 → (l : Link) → Linked ls (x .security) (x .csd) l → LinkRefused cs ss acc ls x 11
+  -- "An investor link has another CSD as technical issuer and FFFF."
+  ownIssuer : x .kind ≡ 1 → x .technical ≡ x .csd → LinkRefused cs ss acc ls x 11
+  accountGiven : x .kind ≡ 1 → x .account ≢ noAccount → LinkRefused cs ss acc ls x 11
+  besideIssuer : x .kind ≡ 1 → (l : Link) → IssuerOf cs ls (x .security) (x .csd) l → LinkRefused cs ss acc ls x 11
+  -- "A CSD's first investor link for a security has flag 1, later ones 0 (alternative) ..; an alternative joins two CSDs in T2S."
+  firstFlag : x .kind ≡ 1 → ((l : Link) → Linked ls (x .security) (x .csd) l → l .kind ≢ 1) → x .flag ≢ 1 → LinkRefused cs ss acc ls x 11
+  laterFlag : x .kind ≡ 1 → (l : Link) → Linked ls (x .security) (x .csd) l → l .kind ≡ 1 → x .flag ≢ 0 → LinkRefused cs ss acc ls x 11
+  fromExternal : x .kind ≡ 1 → x .flag ≡ 0 → External cs (x .csd) → LinkRefused cs ss acc ls x 11
+  toExternal : x .kind ≡ 1 → x .flag ≡ 0 → External cs (x .technical) → LinkRefused cs ss acc ls x 11
+
+-- an entry of a row into a directory
+abbrev pub RowRefused : Rows → Row → ℕ → Type 0
+RowRefused r (csdRow x) = CsdRefused (r .csds) x
+RowRefused r (securityRow x) = SecurityRefused (r .securities) x
+RowRefused r (accountRow x) = AccountRefused (r .csds) (r .accounts) x
+RowRefused r (pairRow x) = PairRefused (r .csds) (r .accounts) (r .pairs) x
+RowRefused r (linkRow x) = LinkRefused (r .csds) (r .securities) (r .accounts) (r .links) x
+
+-- ---- the directory and the lent lists
+
+-- "each row .. would be accepted after the rows before it"
+abbrev pub InOrder : {A : Type 0} → (List A → A → ℕ → Type 0) → List A → Type 0
+InOrder {A} refused rows = (before after : List A) (x : A) → rows ≡ before ++ (x ∷ after) → NoneApplies (refused before x)
+
+-- "A directory is sound when counts are within limits and each row, tables taken in this order, would be accepted after the rows before it."
+pub record Sound (d : Directory) : Type 0 where
+  pub csdCount : d .csds .count ≤ csdLimit
+  pub securityCount : d .securities .count ≤ securityLimit
+  pub accountCount : d .accounts .count ≤ accountLimit
+  pub pairCount : d .pairs .count ≤ pairLimit
+  pub linkCount : d .links .count ≤ linkLimit
+  pub csds : InOrder CsdRefused (rowsOf d .csds)
+  pub securities : InOrder SecurityRefused (rowsOf d .securities)
+  pub accounts : InOrder (AccountRefused (rowsOf d .csds)) (rowsOf d .accounts)
+  pub pairs : InOrder (PairRefused (rowsOf d .csds) (rowsOf d .accounts)) (rowsOf d .pairs)
+  pub links : InOrder (LinkRefused (rowsOf d .csds) (rowsOf d .securities) (rowsOf d .accounts)) (rowsOf d .links)
+
+-- "positions not 4,096, cash not 256, steps below 16", for the lists that a call is lent
+pub data Misfits (st : Store) : Call → Type 0 where
+  movePositions : {w : Way} {a s q : ℕ} → length (st .positions) ≢ positionCount → Misfits st (move w a s q)
+  payCash : {w : Way} {a m : ℕ} → length (st .cash) ≢ cashCount → Misfits st (pay w a m)
+  settlePositions : {h g : Half} {lent : List Step} → length (st .positions) ≢ positionCount → Misfits st (settle h g lent)
+  settleCash : {h g : Half} {lent : List Step} → length (st .cash) ≢ cashCount → Misfits st (settle h g lent)
+  settleSteps : {h g : Half} {lent : List Step} → length lent < stepLimit → Misfits st (settle h g lent)
+  deriveSteps : {h g : Half} {lent : List Step} → length lent < stepLimit → Misfits st (derive h g lent)
+
+-- ---- 06 to 09
+
+-- the account that a bring-in debits: "in its CSD, the issuance account of its issuer link, else the inter-CSD account of its default link
+-- to an external CSD"
+pub data ContraOf (r : Rows) (s c : ℕ) : ℕ → Type 0 where
+  issuance : (l : Link) → IssuerOf (r .csds) (r .links) s c l → ContraOf r s c (l .account)
+  interCsd : (l : Link) (p : Pair) → NoIssuer (r .csds) (r .links) s c → DefaultOf (r .csds) (r .links) s c l → External (r .csds) (l .technical)
+      → List·Memᴰ p (r .pairs) → p .investor ≡ c → p .technical ≡ l .technical → ContraOf r s c (p .mirror)
+
+-- a step that q units of s are short for: "A debited participant or omnibus position must not fall below 0"
+pub record Short (acc : List Account) (p : List ℤ) (s q : ℕ) (x : Step) : Type 0 where
+  pub floored : ParticipantOrOmnibus acc (x .debited)
+  pub holds : heldIn p s (x .debited) <ℤ pos q
+
+-- a step by which a number would end beyond ±10^15
+pub data Exceeds (p : List ℤ) (s q : ℕ) (x : Step) : Type 0 where
+  debited : Beyond (heldIn p s (x .debited) -ℤ pos q) → Exceeds p s q x
+  credited : Beyond (heldIn p s (x .credited) +ℤ pos q) → Exceeds p s q x
+
+-- 06, 07: a bring-in or take-out of q units of s on the account a
+pub data MoveRefused (r : Rows) (p : List ℤ) (w : Way) (a s q : ℕ) : ℕ → Type 0 where
+  moveAccount : NoRow (r .accounts) a → MoveRefused r p w a s q 6
+  moveSecurity : NoRow (r .securities) s → MoveRefused r p w a s q 6
+  noQuantity : q ≡ 0 → MoveRefused r p w a s q 7
+  quantityBeyond : limit < q → MoveRefused r p w a s q 7
+  moveKind : (y : Account) → Is (r .accounts) a y → y .kind ≢ 0 → MoveRefused r p w a s q 10
+  -- "no issuer link and no default link to an external CSD, or no pair for it"
+  noLink : NoIssuer (r .csds) (r .links) s (homeOf (r .accounts) a)
+      → ((l : Link) → DefaultOf (r .csds) (r .links) s (homeOf (r .accounts) a) l → InT2S (r .csds) (l .technical)) → MoveRefused r p w a s q 19
+  noPair : NoIssuer (r .csds) (r .links) s (homeOf (r .accounts) a) → (l : Link) → DefaultOf (r .csds) (r .links) s (homeOf (r .accounts) a) l
+      → External (r .csds) (l .technical) → NoPair (r .pairs) (homeOf (r .accounts) a) (l .technical) → MoveRefused r p w a s q 19
+  moveShort : (u : ℕ) → ContraOf r s (homeOf (r .accounts) a) u
+      → Short (r .accounts) p s q (moveStep w (homeOf (r .accounts) a) a u) → MoveRefused r p w a s q 20
+  moveBeyond : (u : ℕ) → ContraOf r s (homeOf (r .accounts) a) u
+      → Exceeds p s q (moveStep w (homeOf (r .accounts) a) a u) → MoveRefused r p w a s q 22
+
+-- 08, 09: an amount m paid in or out on the account a
+pub data PayRefused (r : Rows) (c : List ℤ) (w : Way) (a m : ℕ) : ℕ → Type 0 where
+  payAccount : NoRow (r .accounts) a → PayRefused r c w a m 6
+  noAmount : m ≡ 0 → PayRefused r c w a m 7
+  amountBeyond : limit < m → PayRefused r c w a m 7
+  payKind : (y : Account) → Is (r .accounts) a y → y .kind ≢ 0 → PayRefused r c w a m 10
+  payShort : w ≡ outgoing → cashOn c a <ℤ pos m → PayRefused r c w a m 21
+  payBeyond : Beyond (cashOn c a +ℤ payment w m .0) → PayRefused r c w a m 22
+
+-- ---- 0A and 0B
+
+-- one half: 6, 7 and 10
+pub data HalfRefused (r : Rows) (h : Half) : ℕ → Type 0 where
+  halfAccount : NoRow (r .accounts) (h .account) → HalfRefused r h 6
+  halfCounterpart : NoRow (r .csds) (h .counterpart) → HalfRefused r h 6
+  halfSecurity : NoRow (r .securities) (h .security) → HalfRefused r h 6
+  halfNoQuantity : h .quantity ≡ 0 → HalfRefused r h 7
+  halfQuantity : limit < h .quantity → HalfRefused r h 7
+  halfAmount : limit < h .amount → HalfRefused r h 7
+  halfKind : (y : Account) → Is (r .accounts) (h .account) y → y .kind ≢ 0 → HalfRefused r h 10
+
+-- both: "security, quantity, amount differ, or a counterpart isn't the other's CSD"; "both accounts the same"
+pub data HalvesRefused (r : Rows) (h g : Half) : ℕ → Type 0 where
+  delivering : {n : ℕ} → HalfRefused r h n → HalvesRefused r h g n
+  receiving : {n : ℕ} → HalfRefused r g n → HalvesRefused r h g n
+  securities : h .security ≢ g .security → HalvesRefused r h g 12
+  quantities : h .quantity ≢ g .quantity → HalvesRefused r h g 12
+  amounts : h .amount ≢ g .amount → HalvesRefused r h g 12
+  receiverCsd : (y : Account) → Is (r .accounts) (g .account) y → y .csd ≢ h .counterpart → HalvesRefused r h g 12
+  delivererCsd : (y : Account) → Is (r .accounts) (h .account) y → y .csd ≢ g .counterpart → HalvesRefused r h g 12
+  sameAccount : h .account ≡ g .account → HalvesRefused r h g 13
+
+-- the chain's cases 1 to 3 give none
+pub record Unjoined (r : Rows) (s D R : ℕ) : Type 0 where
+  pub differ : D ≢ R
+  pub noMeeting : NoMeeting (r .csds) (r .links) s D R
+  pub notAhead : NoDirected (r .csds) (r .links) s R D
+  pub notBack : NoDirected (r .csds) (r .links) s D R
+
+-- "nine are too long, and so is A to C to A": no default walk of at most 8 CSDs from c ends
+abbrev pub TooLong : Rows → ℕ → ℕ → Type 0
+TooLong r s c = (path : List ℕ) (e : WalkEnd) → DefaultWalk (r .csds) (r .links) s c path e → ⊥
+
+-- a side goes on from a CSD to the next, and they have no pair
+pub data Unpaired (ps : List Pair) : List ℕ → Type 0 where
+  between : {c n : ℕ} {path : List ℕ} → NoPair ps c n → Unpaired ps (c ∷ n ∷ path)
+  above : {c : ℕ} {path : List ℕ} → Unpaired ps path → Unpaired ps (c ∷ path)
+
+-- the chain for the security s from the CSD D to the CSD R
+pub data ChainRefused (r : Rows) (s D R : ℕ) : ℕ → Type 0 where
+  deliveringUnlinked : Unjoined r s D R → (path : List ℕ) → DefaultWalk (r .csds) (r .links) s D path NoLink → ChainRefused r s D R 14
+  receivingUnlinked : Unjoined r s D R → (path : List ℕ) → DefaultWalk (r .csds) (r .links) s R path NoLink → ChainRefused r s D R 14
+  deliveringTooLong : Unjoined r s D R → TooLong r s D → ChainRefused r s D R 15
+  receivingTooLong : Unjoined r s D R → TooLong r s R → ChainRefused r s D R 15
+  -- "D inside, R outside; the reverse"
+  insideOutside : Unjoined r s D R → (up down : List ℕ) (i y : ℕ) → DefaultWalk (r .csds) (r .links) s D up (Inside i)
+      → DefaultWalk (r .csds) (r .links) s R down (Outside y) → ChainRefused r s D R 16
+  outsideInside : Unjoined r s D R → (up down : List ℕ) (x j : ℕ) → DefaultWalk (r .csds) (r .links) s D up (Outside x)
+      → DefaultWalk (r .csds) (r .links) s R down (Inside j) → ChainRefused r s D R 17
+  -- "chain needs a pair not entered"
+  upUnpaired : (j : Join) (up down : List ℕ) → Joins (r .csds) (r .links) s D R j up down → Unpaired (r .pairs) up → ChainRefused r s D R 18
+  downUnpaired : (j : Join) (up down : List ℕ) → Joins (r .csds) (r .links) s D R j up down → Unpaired (r .pairs) down → ChainRefused r s D R 18
+
+-- a derivation
+pub data DeriveRefused (r : Rows) (h g : Half) : ℕ → Type 0 where
+  halves : {n : ℕ} → HalvesRefused r h g n → DeriveRefused r h g n
+  chain : {n : ℕ} → ChainRefused r (h .security) (homeOf (r .accounts) (h .account)) (homeOf (r .accounts) (g .account)) n → DeriveRefused r h g n
+
+-- a settlement, "judged on the store before the call"; "amount 0 touches none"
+pub data SettleRefused (r : Rows) (p c : List ℤ) (h g : Half) : ℕ → Type 0 where
+  derivation : {n : ℕ} → DeriveRefused r h g n → SettleRefused r p c h g n
+  securitiesShort : (steps : List Step) (x : Step) → ChainIs r (h .security) (h .account) (g .account) steps → List·Memᴰ x steps
+      → Short (r .accounts) p (h .security) (h .quantity) x → SettleRefused r p c h g 20
+  cashShort : h .amount ≢ 0 → cashOn c (g .account) <ℤ pos (h .amount) → SettleRefused r p c h g 21
+  securitiesBeyond : (steps : List Step) (x : Step) → ChainIs r (h .security) (h .account) (g .account) steps → List·Memᴰ x steps
+      → Exceeds p (h .security) (h .quantity) x → SettleRefused r p c h g 22
+  payerBeyond : h .amount ≢ 0 → Beyond (cashOn c (g .account) -ℤ pos (h .amount)) → SettleRefused r p c h g 22
+  payeeBeyond : h .amount ≢ 0 → Beyond (cashOn c (h .account) +ℤ pos (h .amount)) → SettleRefused r p c h g 22
+
+-- ---- any call
+
+-- 5 to 22
+abbrev pub CoreRefused : Call → Store → ℕ → Type 0
+CoreRefused (enter x) st = RowRefused (rowsOf (st .directory)) x
+CoreRefused (move w a s q) st = MoveRefused (rowsOf (st .directory)) (st .positions) w a s q
+CoreRefused (pay w a m) st = PayRefused (rowsOf (st .directory)) (st .cash) w a m
+CoreRefused (settle h g lent) st = SettleRefused (rowsOf (st .directory)) (st .positions) (st .cash) h g
+CoreRefused (derive h g lent) st = DeriveRefused (rowsOf (st .directory)) h g
+
+-- 3 to 22: the number n applies to the call
+pub data Refuses (c : Call) (st : Store) : ℕ → Type 0 where
+  lists : Misfits st c → Refuses c st 3
+  directory : (Sound (st .directory) → ⊥) → Refuses c st 4
+  core : {n : ℕ} → CoreRefused c st n → Refuses c st n
+
+-- the total of a security
+pub data UnitsTotalRefused (d : Directory) (p : List ℤ) (s : ℕ) : ℕ → Type 0 where
+  totalPositions : length p ≢ positionCount → UnitsTotalRefused d p s 3
+  totalDirectory : (Sound d → ⊥) → UnitsTotalRefused d p s 4
+  totalSecurity : NoRow (rowsOf d .securities) s → UnitsTotalRefused d p s 6
+  -- "Totals over a lent number beyond ±10^15 are refused 22."
+  totalBeyond : (a : ℕ) (y : Account) → a < accountLimit → Is (rowsOf d .accounts) a y → y .kind ≡ 0 → Beyond (heldIn p s a) → UnitsTotalRefused d p s 22
+
+-- the total of cash
+pub data CashTotalRefused (c : List ℤ) : ℕ → Type 0 where
+  totalCash : length c ≢ cashCount → CashTotalRefused c 3
+  cashBeyond : (a : ℕ) → a < cashCount → Beyond (cashOn c a) → CashTotalRefused c 22
