@@ -10,6 +10,8 @@ pub mod EntryRelation
 pub mod PairRelation
 pub mod LinkRelation
 pub mod SoundRelation
+pub mod AmountRelation
+pub mod MoveRelation
 pub mod FirstRow
 pub mod Identifiers
 pub mod Examples

@@ -4,13 +4,14 @@ use mathlib.Core.Path.{_≡_, refl, sym, _∙_}
 use mathlib.Core.Logic.{_≢_, _⊎_, inl, inr}
 use mathlib.Core.Bool.{true, false, _||_}
 use mathlib.Core.List.{List, List·Memᴰ}
-use mathlib.Core.Option.{some}
+use mathlib.Core.Option.{Option, none, some}
 use Prim.Native.Nat.{ℕ}
 use native.Mathlib.Omega.{arith}
 use lib.Dec.{eqb}
 use Rattle.rules.specs.Types.{Pair}
 use Rattle.rules.specs.Directory.{Rows, noAccount, external, isKind, joins, uses, pairOf}
-use Rattle.rules.proofs.Basics.{clash, untrue, and-both, and-true, or-left, or-right, or-cases, bool-cases, equal-tests, eqb-is, eqb-true, find-some}
+use Rattle.rules.specs.Refusals.{NoPair}
+use Rattle.rules.proofs.Basics.{clash, untrue, and-both, and-true, or-left, or-right, or-cases, bool-cases, equal-tests, eqb-is, eqb-true, find-some, find-none}
 use Rattle.rules.proofs.FirstRow.{only-found}
 use Rattle.rules.proofs.Facts.{HomePair, AwayPair, PairFacts, Facts}
 use Rattle.rules.proofs.Trail.{plain}
@@ -33,6 +34,19 @@ unfolding pairOf
 pair-found r F i t p m e f =
     only-found (joins i t) (r .pairs) p m (and-true (eqb (p .investor) i) (eqb (p .technical) t) (eqb-true (p .investor) i e) (eqb-true (p .technical) t f))
     (λ q n g. F .onePair q p n m (joins-says i t q g .0 ∙ sym e) (joins-says i t q g .1 ∙ sym f))
+
+-- where none is found, none is entered
+pub no-pair : (ps : List Pair) (i t : ℕ) → pairOf ps i t ≡ none → NoPair ps i t
+unfolding pairOf
+no-pair ps i t e p m f g =
+    clash (joins i t p) (and-true (eqb (p .investor) i) (eqb (p .technical) t) (eqb-true (p .investor) i f) (eqb-true (p .technical) t g)) (find-none (joins i t) ps e p m)
+
+pub pair-none : (ps : List Pair) (i t : ℕ) → NoPair ps i t → pairOf ps i t ≡ none
+pair-none ps i t h = go (pairOf ps i t) refl
+  where
+    go : (o : Option Pair) → pairOf ps i t ≡ o → o ≡ none
+    go none e = refl
+    go (some p) e = let f = found-pair ps i t p e in absurd (h p (f .0) (f .1) (f .2))
 
 -- ---- the accounts of a pair
 pub uses-mirror : (p : Pair) → uses (p .mirror) p ≡ true
