@@ -47,7 +47,7 @@ module _ (K : Lookups) (s : ℕ) where
   few D R o (reversed ne n k e) = (omega arith, by-directed D R)
   few D R o (twoIssuers i j k p q) = (by-default D, by-default R)
   few D R o (twoExternals x y k p q) = (by-default D, by-default R)
-  few D R o (refused n l h) = (l, h)
+  few D R o (refused n k e l h) = (l, h)
 
 -- a side has one step fewer than CSDs
 abbrev Climbing : List ℕ → Climb → Type 0

@@ -39,6 +39,7 @@ pub mod MeetingRelation
 pub mod RouteRelation
 pub mod SidePaths
 pub mod ClimbRelation
+pub mod ChainNumbers
 pub mod ChainRelation
 pub mod Turning
 pub mod ChainSize

@@ -17,13 +17,13 @@ use Rattle.rules.proofs.Routing.{Routed, oneCsd, sharing, directed, rev
 use Rattle.rules.proofs.MeetingRelation.{meets-shared, shared-meets, no-meeting, none-shared}
 
 module _ (r : Rows) (s : ℕ) where
-  not-reached : (t c : ℕ) → NoDirected (r .csds) (r .links) s t c → reached t (directedWalk (ask r) s t c .end) ≡ false
+  pub not-reached : (t c : ℕ) → NoDirected (r .csds) (r .links) s t c → reached t (directedWalk (ask r) s t c .end) ≡ false
   not-reached t c never = untrue (reached t (w .end)) (λ e. never (w .path) (walk-directed r s t c e))
     where
       w : Walk
       w = directedWalk (ask r) s t c
 
-  reached-not : Facts r → (t c : ℕ) → reached t (directedWalk (ask r) s t c .end) ≡ false → NoDirected (r .csds) (r .links) s t c
+  pub reached-not : Facts r → (t c : ℕ) → reached t (directedWalk (ask r) s t c .end) ≡ false → NoDirected (r .csds) (r .links) s t c
   reached-not F t c e path d = clash (reached t (Inside t)) (eqb-true t t refl) (rw (directed-walk r s F t c path d) at e)
 
 module _ (r : Rows) (F : Facts r) (s D R : ℕ) where
@@ -55,7 +55,7 @@ module _ (r : Rows) (F : Facts r) (s D R : ℕ) where
   joined o (twoExternals x y k p q) =
       externals (k .differ) (none-shared r s D R F (k .unshared)) (reached-not r s F R D (k .notAhead)) (reached-not r s F D R (k .notBack))
       (walk-default r s D (Outside x) p refl) (walk-default r s R (Outside y) q refl)
-  joined o (refused n l k) = tt
+  joined o (refused n k e l h) = tt
 
   pub route-joins : Joined (route (ask r) s D R)
   route-joins = joined (route (ask r) s D R) (routed (ask r) s D R)

@@ -1,9 +1,10 @@
 -- The walks of the definitions are the walks of the relations, since each hop is.
 use mathlib.Core.Path.{_≡_, refl, sym, ap, _∙_}
+use mathlib.Core.Logic.{_≢_}
 use mathlib.Core.Bool.{true, true≢false}
 use mathlib.Core.List.{List, [], _∷_}
 use Prim.Native.Nat.{ℕ}
-use Rattle.rules.specs.Types.{Hop, Ends, On, WalkEnd, Inside, Outside, NoLink}
+use Rattle.rules.specs.Types.{Hop, Ends, On, WalkEnd, Inside, Outside, NoLink, TooLong}
 use Rattle.rules.specs.Directory.{Rows}
 use Rattle.rules.specs.Lookups.{ask}
 use Rattle.rules.specs.Walks.{sideLimit, Walk, defaultHop, directedHop, defaultWalk, directedWalk, arrived, reached}
@@ -40,16 +41,16 @@ module _ (r : Rows) (s : ℕ) where
       → defaultWalk (ask r) s c ≡ record { end = e; path = path }
   default-walk F c path e w = runs-walk (defaultHop (ask r) s) c path e (walks-runs F c path e (w .walks)) sideLimit (w .short)
 
-  pub walk-default : (c : ℕ) (e : WalkEnd) → defaultWalk (ask r) s c .end ≡ e → arrived e ≡ true
-      → DefaultWalk (r .csds) (r .links) s c (defaultWalk (ask r) s c .path) e
-  walk-default c e q a =
+  pub walk-ends : (c : ℕ) (e : WalkEnd) → defaultWalk (ask r) s c .end ≡ e → e ≢ TooLong → DefaultWalk (r .csds) (r .links) s c (defaultWalk (ask r) s c .path) e
+  walk-ends c e q n =
       record {
-        walks = runs-walks c (w .path) e (rw q at (walk-runs (defaultHop (ask r) s) sideLimit c (λ t. clash (arrived e) a (ap arrived (sym q ∙ t)))));
+        walks = runs-walks c (defaultWalk (ask r) s c .path) e (rw q at (walk-runs (defaultHop (ask r) s) sideLimit c (λ t. n (sym q ∙ t))));
         short = walk-short (defaultHop (ask r) s) sideLimit c;
       }
-    where
-      w : Walk
-      w = defaultWalk (ask r) s c
+
+  pub walk-default : (c : ℕ) (e : WalkEnd) → defaultWalk (ask r) s c .end ≡ e → arrived e ≡ true
+      → DefaultWalk (r .csds) (r .links) s c (defaultWalk (ask r) s c .path) e
+  walk-default c e q a = walk-ends c e q (λ t. clash (arrived e) a (ap arrived t))
 
   -- ---- directed walks
   pub directs-runs : Facts r → (t c : ℕ) (path : List ℕ) → Directs (r .csds) (r .links) s t c path → Runs (directedHop (ask r) s t) c path (Inside t)
