@@ -12,6 +12,7 @@ pub mod LinkRelation
 pub mod SoundRelation
 pub mod AmountRelation
 pub mod MoveRelation
+pub mod SettleRelation
 pub mod FirstRow
 pub mod Identifiers
 pub mod Examples
