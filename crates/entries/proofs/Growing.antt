@@ -7,10 +7,10 @@ use lib.ListN.{length}
 use Rattle.rules.specs.declared.Directory.{Directory}
 use Rattle.rules.specs.Tests.{isFull, lowest}
 use Rattle.rules.specs.Directory.{Rows, rowsOf}
-use Rattle.rules.specs.Entries.{Row, rowConditions, addRow}
+use Rattle.rules.specs.Entries.{Row, rowConditions, addRow, Sized}
 use Rattle.rules.specs.Demands.{withRow}
 use Rattle.rules.proofs.Basics.{leb-not}
-use Rattle.rules.proofs.Tables.{Sized, added-sized, added-rows}
+use Rattle.rules.proofs.Tables.{added-sized, added-rows}
 use Rattle.rules.proofs.Growth.{keeps-sound}
 use Rattle.index.specs.Index.{Place, Inside, placeOf, numberAt, indexOf, WholeTables}
 use Rattle.index.proofs.Standing.{number-at}

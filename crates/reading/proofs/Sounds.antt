@@ -13,12 +13,12 @@ use Rattle.rules.specs.declared.Link.{Link}
 use Rattle.rules.specs.declared.Directory.{Directory}
 use Rattle.rules.specs.Tests.{eachAfter, lowest}
 use Rattle.rules.specs.Directory.{Rows, rowsOf}
-use Rattle.rules.specs.Entries.{Row, csdRow, securityRow, accountRow, pairRow, linkRow, rowConditions, addRow, emptyDirectory}
+use Rattle.rules.specs.Entries.{Row, csdRow, securityRow, accountRow, pairRow, linkRow, rowConditions, addRow, emptyDirectory, Sized}
 use Rattle.rules.specs.Entries.{csdRefusal, securityRefusal, accountRefusal, pairRefusal, linkRefusal}
 use Rattle.rules.specs.Entries.{csdsSound, securitiesSound, accountsSound, pairsSound, linksSound, withinLimits, soundRows, sound}
 use Rattle.rules.specs.Demands.{withRow, noRows}
 use Rattle.rules.proofs.Basics.{and-both, eqb-false}
-use Rattle.rules.proofs.Tables.{Sized, added-rows, empty-rows}
+use Rattle.rules.proofs.Tables.{added-rows, empty-rows}
 use Rattle.index.specs.Index.{WholeTables}
 use Rattle.entries.specs.Entered.{Kept, Keeps, refusalIn, withRowIn}
 use Rattle.entries.proofs.Refusing.{refusal-is}

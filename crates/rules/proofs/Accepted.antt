@@ -14,7 +14,6 @@ use Rattle.rules.specs.Lookups.{homeOf, ask}
 use Rattle.rules.specs.Chain.{chained, stepsOf, chainConditions, stepLimit, chain}
 use Rattle.rules.specs.Booking.{Way, positionCount, cashCount, contra, moveBy, moveChain, payShort, unitsShort, unitsBeyond}
 use Rattle.rules.specs.Calls.{Store, Call, move, pay, settle, misfit, coreConditions, deskConditions, halvesConditions, halvesChain, deriveConditions, bookConditions}
-use Rattle.rules.specs.Demands.{Agree, Allowed}
 use Rattle.rules.proofs.Basics.{impossible, unnot-false, or-none, eqb-is, Quiet, loud}
 use Rattle.rules.proofs.Several.{none-hold}
 use Rattle.rules.proofs.Facts.{Facts}
@@ -25,8 +24,8 @@ use Rattle.rules.proofs.Soundness.{sound-gives}
 use Rattle.rules.proofs.Chains.{chain-trail}
 use Rattle.rules.proofs.Conditions.{quiet-both, quiet-chained}
 use Rattle.rules.proofs.Refusals.{desk-quiet}
-use Rattle.rules.proofs.Agreement.{named-security, quiet-agree}
-use Rattle.rules.proofs.Permissions.{units-held, quiet-allowed}
+use Rattle.rules.proofs.Agreement.{Agreed, named-security, quiet-agree}
+use Rattle.rules.proofs.Permissions.{Permitted, units-held, quiet-allowed}
 use Rattle.rules.proofs.Moves.{source, target, moveSteps, holder-plain, source-plain, target-plain, move-trail}
 
 pub books-sound : (c : Call) (st : Store) → lowest (deskConditions c st) ≡ 0 → sound (st .directory) ≡ true
@@ -128,9 +127,9 @@ pay-facts st w a m free =
 pub record SettleFacts (st : Store) (h g : Half) (steps : List Step) : Type 0 where
   pub positions : length (st .positions) ≡ positionCount
   pub cash : length (st .cash) ≡ cashCount
-  pub agree : Agree (rowsOf (st .directory)) h g
+  pub agree : Agreed (rowsOf (st .directory)) h g
   pub chain : chain (ask (rowsOf (st .directory))) (h .security) (h .account) (g .account) ≡ chained steps
-  pub allowed : Allowed st h g steps
+  pub allowed : Permitted st h g steps
   pub transfer : Transfer (rowsOf (st .directory)) (st .positions) (h .account) steps (g .account) (h .security) (h .quantity)
   pub payer : g .account < cashCount
   pub payee : h .account < cashCount
@@ -177,10 +176,10 @@ settle-facts st h g lent free =
     before : Quiet (halvesConditions (ask rows) h g) × Quiet (chainConditions (halvesChain (ask rows) h g))
     before = quiet-both (halvesConditions (ask rows) h g) (chainConditions (halvesChain (ask rows) h g)) (parts .0)
 
-    agree : Agree rows h g
+    agree : Agreed rows h g
     agree = quiet-agree rows h g (before .0)
 
-    allowed : Allowed st h g steps
+    allowed : Permitted st h g steps
     allowed = quiet-allowed st h g steps (parts .1)
 
     is : chain (ask rows) (h .security) (h .account) (g .account) ≡ chained steps

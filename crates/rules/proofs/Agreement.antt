@@ -3,9 +3,10 @@ use mathlib.Core.Path.{_≡_}
 use mathlib.Core.Logic.{_≢_}
 use mathlib.Core.Bool.{true, false, not, _||_}
 use mathlib.Core.List.{[], _∷_}
-use Prim.Native.Nat.{ℕ, _≤_}
+use Prim.Native.Nat.{ℕ, _≤_, _<_}
 use native.Mathlib.Omega.{arith}
 use lib.Dec.{eqb, ltb}
+use lib.ListN.{length}
 use Rattle.rules.specs.Types.{Half}
 use Rattle.rules.specs.Tests.{isRow}
 use Rattle.rules.specs.Directory.{Rows, isKind, inBooks}
@@ -13,8 +14,11 @@ use Rattle.rules.specs.Lookups.{ask}
 use Rattle.rules.specs.Booking.{limit, outOfRange, amountOutOfRange}
 use Rattle.rules.specs.Calls.{halfUnknown, halfOutOfRange, halvesDiffer, halvesConditions}
 use Rattle.rules.specs.Demands.{Agree}
-use Rattle.rules.proofs.Basics.{unnot-false, or-none, or-false, eqb-is, eqb-true, eqb-not, eqb-false, ltb-not, ltb-false, Quiet}
+use Rattle.rules.proofs.Basics.{unnot-false, or-none, or-false, eqb-is, eqb-true, eqb-not, eqb-false, ltb-is, ltb-true, ltb-not, ltb-false, Quiet}
 use Rattle.rules.proofs.Several.{none-hold}
+use Rattle.rules.proofs.RowTests.{says-kind-is, says-csd-is}
+use Rattle.rules.proofs.Facts.{Facts}
+use Rattle.rules.proofs.Accounts.{kind-row}
 
 -- ---- single tests
 in-range : (q : ℕ) → outOfRange q ≡ false → (1 ≤ q) × (q ≤ limit)
@@ -37,10 +41,32 @@ named-security r h e =
     unnot-false (isRow (r .securities) (h .security))
     (none-hold (not (isRow (r .accounts) (h .account))) (not (isRow (r .csds) (h .counterpart)) ∷ not (isRow (r .securities) (h .security)) ∷ []) e .1 .1)
 
+-- what the tests say of halves that agree
+pub record Agreed (r : Rows) (h g : Half) : Type 0 where
+  pub delivererNamed : halfUnknown (ask r) h ≡ false
+  pub receiverNamed : halfUnknown (ask r) g ≡ false
+  pub quantity : (1 ≤ h .quantity) × (h .quantity ≤ limit)
+  pub amount : h .amount ≤ limit
+  pub deliverer : isKind (r .accounts) (h .account) 0 ≡ true
+  pub receiver : isKind (r .accounts) (g .account) 0 ≡ true
+  pub sameSecurity : h .security ≡ g .security
+  pub sameQuantity : h .quantity ≡ g .quantity
+  pub sameAmount : h .amount ≡ g .amount
+  pub receiverCsd : inBooks (r .accounts) (g .account) (h .counterpart) ≡ true
+  pub delivererCsd : inBooks (r .accounts) (h .account) (g .counterpart) ≡ true
+  pub two : h .account ≢ g .account
+
+-- a half whose account, counterpart and security are rows
+named : (r : Rows) → Facts r → (x : Half) (b : ℕ) → isKind (r .accounts) (x .account) 0 ≡ true → inBooks (r .accounts) b (x .counterpart) ≡ true → x .security < length (r .securities)
+    → halfUnknown (ask r) x ≡ false
+unfolding isRow
+named r F x b k c l =
+    rw (ltb-true (x .account) (length (r .accounts)) (kind-row (r .accounts) (x .account) 0 k), F .homeRow b (x .counterpart) c, ltb-true (x .security) (length (r .securities)) l)
+
 -- ---- both halves
 module _ (r : Rows) (h g : Half) where
-  pub agree-quiet : Agree r h g → Quiet (halvesConditions (ask r) h g)
-  agree-quiet A =
+  agreed-quiet : Agreed r h g → Quiet (halvesConditions (ask r) h g)
+  agreed-quiet A =
       let low : 1 ≤ h .quantity = A .quantity .0 in
       let high : h .quantity ≤ limit = A .quantity .1 in
       let most : h .amount ≤ limit = A .amount in
@@ -53,7 +79,7 @@ module _ (r : Rows) (h g : Half) where
       = rw (eqb-true (h .security) (g .security) (A .sameSecurity), eqb-true (h .quantity) (g .quantity) quantity, eqb-true (h .amount) (g .amount) amount, A .receiverCsd, A .delivererCsd) in
       (known, (ranges, (kinds, (same, (eqb-false (h .account) (g .account) (A .two), tt)))))
 
-  pub quiet-agree : Quiet (halvesConditions (ask r) h g) → Agree r h g
+  pub quiet-agree : Quiet (halvesConditions (ask r) h g) → Agreed r h g
   quiet-agree q =
       let named = or-none (halfUnknown (ask r) h) (halfUnknown (ask r) g) (q .0) in
       let ranges = or-none (outOfRange (h .quantity)) (amountOutOfRange (h .amount)) (or-none (halfOutOfRange h) (halfOutOfRange g) (q .1 .0) .0) in
@@ -75,4 +101,42 @@ module _ (r : Rows) (h g : Half) where
         receiverCsd = unnot-false receiver (same .1 .1 .1 .0);
         delivererCsd = unnot-false deliverer (same .1 .1 .1 .1);
         two = eqb-not (h .account) (g .account) (q .1 .1 .1 .1 .0);
+      }
+
+  pub agree-quiet : Facts r → Agree r h g → Quiet (halvesConditions (ask r) h g)
+  agree-quiet F A =
+      let from : isKind (r .accounts) (h .account) 0 ≡ true = says-kind-is (r .accounts) (h .account) 0 .tests (A .deliverer) in
+      let to : isKind (r .accounts) (g .account) 0 ≡ true = says-kind-is (r .accounts) (g .account) 0 .tests (A .receiver) in
+      let receiverCsd = says-csd-is (r .accounts) (g .account) (h .counterpart) .tests (A .receiverCsd) in
+      let delivererCsd = says-csd-is (r .accounts) (h .account) (g .counterpart) .tests (A .delivererCsd) in
+      agreed-quiet (record {
+        delivererNamed = named r F h (g .account) from receiverCsd (A .security);
+        receiverNamed = named r F g (h .account) to delivererCsd (rw (A .sameSecurity) at (A .security));
+        quantity = A .quantity;
+        amount = A .amount;
+        deliverer = from;
+        receiver = to;
+        sameSecurity = A .sameSecurity;
+        sameQuantity = A .sameQuantity;
+        sameAmount = A .sameAmount;
+        receiverCsd = receiverCsd;
+        delivererCsd = delivererCsd;
+        two = A .two;
+      })
+
+  pub agreed-agree : Agreed r h g → Agree r h g
+  unfolding isRow
+  agreed-agree A =
+      record {
+        deliverer = says-kind-is (r .accounts) (h .account) 0 .holds (A .deliverer);
+        receiver = says-kind-is (r .accounts) (g .account) 0 .holds (A .receiver);
+        two = A .two;
+        receiverCsd = says-csd-is (r .accounts) (g .account) (h .counterpart) .holds (A .receiverCsd);
+        delivererCsd = says-csd-is (r .accounts) (h .account) (g .counterpart) .holds (A .delivererCsd);
+        security = ltb-is (h .security) (length (r .securities)) (named-security r h (A .delivererNamed));
+        sameSecurity = A .sameSecurity;
+        quantity = A .quantity;
+        sameQuantity = A .sameQuantity;
+        amount = A .amount;
+        sameAmount = A .sameAmount;
       }

@@ -6,14 +6,19 @@ use Prim.Native.Nat.{ℕ}
 use Rattle.rules.specs.Types.{Step}
 use Rattle.rules.specs.Tests.{lowest}
 use Rattle.rules.specs.Directory.{Rows, rowsOf}
+use Rattle.rules.specs.Entries.{addRow, rowConditions}
+use Rattle.rules.specs.Lookups.{homeOf}
 use Rattle.rules.specs.Booking.{Way, booked, payment}
 use Rattle.rules.specs.Calls.{Store, Call, enter, move, pay, settle, derive, Outcome, outcome, desk, deskConditions, chainFor, isAccepted}
 use Rattle.rules.specs.Demands.{MovedUnits, Changes}
-use Rattle.rules.proofs.Refusals.{desk-clear, accepted-lowest}
+use Rattle.rules.proofs.Basics.{loud}
+use Rattle.rules.proofs.Tables.{added-rows}
+use Rattle.rules.proofs.MoveRelation.{contra-found}
+use Rattle.rules.proofs.Refusals.{desk-quiet, desk-clear, accepted-lowest}
 use Rattle.rules.proofs.Bookings.{transfer-moves}
 use Rattle.rules.proofs.Payments.{cents-shift}
 use Rattle.rules.proofs.Moves.{source, target, moveSteps}
-use Rattle.rules.proofs.Accepted.{MoveFacts, move-facts, PayFacts, pay-facts}
+use Rattle.rules.proofs.Accepted.{facts-of, MoveFacts, move-facts, PayFacts, pay-facts}
 use Rattle.rules.proofs.Settlements.{booked-pair}
 
 module _ (st : Store) where
@@ -22,7 +27,7 @@ module _ (st : Store) where
 
   move-changes : (w : Way) (a s q : ℕ) → lowest (deskConditions (move w a s q) st) ≡ 0 → Changes (move w a s q) st (desk (move w a s q) st .store)
   move-changes w a s q free =
-      (ap (λ (o : Outcome). o .store .directory) left, (M .other, M .found, units), ap (λ (o : Outcome). o .store .cash) left)
+      (ap (λ (o : Outcome). o .store .directory) left, (M .other, rw (M .found) at (contra-found rows (facts-of (move w a s q) st free) s (homeOf (rows .accounts) a)), units), ap (λ (o : Outcome). o .store .cash) left)
     where
       left : desk (move w a s q) st ≡ outcome 0 (move w a s q) st
       left = desk-clear (move w a s q) st free
@@ -46,7 +51,12 @@ module _ (st : Store) where
   unrefused-changes : (c : Call) → lowest (deskConditions c st) ≡ 0 → Changes c st (desk c st .store)
   unrefused-changes (enter x) free =
       let left : desk (enter x) st ≡ outcome 0 (enter x) st = desk-clear (enter x) st free in
-      (ap (λ (o : Outcome). o .store .directory) left, ap (λ (o : Outcome). o .store .positions) left, ap (λ (o : Outcome). o .store .cash) left)
+      let entered : desk (enter x) st .store .directory ≡ addRow x (st .directory) = ap (λ (o : Outcome). o .store .directory) left in (
+        entered,
+        λ z. ap rowsOf entered ∙ added-rows x (st .directory) z (loud (rowConditions rows x) (desk-quiet (enter x) st free .1 .1)),
+        ap (λ (o : Outcome). o .store .positions) left,
+        ap (λ (o : Outcome). o .store .cash) left,
+      )
   unrefused-changes (move w a s q) free = move-changes w a s q free
   unrefused-changes (pay w a m) free = pay-changes w a m free
   unrefused-changes (settle h g lent) free = (chainFor (settle h g lent) st, booked-pair st h g lent free)

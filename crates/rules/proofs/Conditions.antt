@@ -1,4 +1,4 @@
--- Laws of a list of conditions: their numbers ascend, so the first that holds has the lowest number that applies.
+-- Laws of a list of conditions: their numbers ascend, so that a refusal is one of them; and what two lists after one another give.
 use mathlib.Core.Path.{_≡_, refl}
 use mathlib.Core.Logic.{_⊎_, inl, inr}
 use mathlib.Core.Bool.{Bool, true, false, _&&_, cond, true≢false}
@@ -9,7 +9,6 @@ use lib.Dec.{leb}
 use Rattle.rules.specs.Types.{Step}
 use Rattle.rules.specs.Tests.{Condition, lowest}
 use Rattle.rules.specs.Chain.{Chain, chained, unchained, stepsOf, chainConditions}
-use Rattle.rules.specs.Demands.{Applies, here, there}
 use Rattle.rules.proofs.Basics.{and-both, and-true, leb-is, leb-true, Quiet, numbered}
 
 -- the numbers ascend, from lo to hi
@@ -61,37 +60,6 @@ lowest-range lo hi (c ∷ cs) e =
     go true l k below = inr (l, k)
     go false l k (inl f) = inl f
     go false l k (inr f) = inr (through lo (c .number) (lowest cs) l (f .0), f .1)
-
-pub lowest-applies : (n : ℕ) (cs : List Condition) → lowest cs ≡ suc n → Applies (suc n) cs
-lowest-applies n [] e = absurd (omega arith)
-lowest-applies n (c ∷ cs) e = go (c .holds) refl e (λ f. lowest-applies n cs f)
-  where
-    go : (b : Bool) → c .holds ≡ b → cond b (c .number) (lowest cs) ≡ suc n → (lowest cs ≡ suc n → Applies (suc n) cs) → Applies (suc n) (c ∷ cs)
-    go true h f below = here f h
-    go false h f below = there (below f)
-
-pub nothing-lowest : (cs : List Condition) → ((n : ℕ) → Applies n cs → ⊥) → lowest cs ≡ 0
-nothing-lowest cs clear = go (lowest cs) refl
-  where
-    go : (n : ℕ) → lowest cs ≡ n → lowest cs ≡ 0
-    go zero e = e
-    go (suc n) e = absurd (clear (suc n) (lowest-applies n cs e))
-
-applies-above : (lo hi m : ℕ) (cs : List Condition) → ascending lo cs hi ≡ true → Applies m cs → lo ≤ m
-applies-above lo hi m (c ∷ cs) e (here n h) = rw (← n) (split lo hi c cs e .0)
-applies-above lo hi m (c ∷ cs) e (there x) =
-    through lo (c .number) m (split lo hi c cs e .0) (applies-above (c .number) hi m cs (split lo hi c cs e .1) x)
-
--- where a condition applies, it is one of the list's, and not above that condition's
-pub lowest-least : (lo hi m : ℕ) (cs : List Condition) → ascending lo cs hi ≡ true → Applies m cs → (lo ≤ lowest cs) × (lowest cs ≤ m)
-lowest-least lo hi m (c ∷ cs) e (here n h) = rw h (split lo hi c cs e .0, omega arith)
-lowest-least lo hi m (c ∷ cs) e (there x) =
-    go (c .holds) (split lo hi c cs e .0) (applies-above (c .number) hi m cs (split lo hi c cs e .1) x) (lowest-least (c .number) hi m cs (split lo hi c cs e .1) x)
-  where
-    go : (b : Bool) → lo ≤ c .number → c .number ≤ m → (c .number ≤ lowest cs) × (lowest cs ≤ m)
-        → (lo ≤ cond b (c .number) (lowest cs)) × (cond b (c .number) (lowest cs) ≤ m)
-    go true l k below = (l, k)
-    go false l k below = (through lo (c .number) (lowest cs) l (below .0), below .1)
 
 -- ---- two lists of conditions, and a chain's
 pub quiet-both : (xs ys : List Condition) → Quiet (xs ++ ys) → Quiet xs × Quiet ys

@@ -3,6 +3,7 @@ use mathlib.Core.Path.{_≡_, refl, sym, ap, _∙_}
 use mathlib.Core.Bool.{not}
 use mathlib.Core.List.{List, _∷_}
 use Prim.Native.Nat.{ℕ, _≤_}
+use native.Mathlib.Omega.{arith}
 use lib.ListN.{length}
 use Rattle.rules.specs.Types.{Half, Step, Answer, Chained}
 use Rattle.rules.specs.Tests.{lowest, _when_}
@@ -12,7 +13,12 @@ use Rattle.rules.specs.Lookups.{ask}
 use Rattle.rules.specs.Chain.{Chain, chained, stepsOf, chainConditions, stepLimit}
 use Rattle.rules.specs.Calls.{Store, Call, derive, Outcome, desk, misfit, deskConditions, halvesConditions, halvesChain, success, written, writtenFor, isAccepted, countOf}
 use Rattle.rules.specs.Demands.{ChainOfHalves, Admitted, Returns, Derives}
-use Rattle.rules.proofs.Basics.{unnot-false, Quiet, quiet, loud}
+use Rattle.rules.specs.Refusals.{lists, directory, core, halves}
+use Rattle.rules.proofs.Basics.{unnot-false, Quiet, loud}
+use Rattle.rules.proofs.Reflection.{says-not, denied}
+use Rattle.rules.proofs.SoundRelation.{says-sound}
+use Rattle.rules.proofs.LentRelation.{says-misfit}
+use Rattle.rules.proofs.SettleRelation.{halves-quiet}
 use Rattle.rules.proofs.Facts.{Facts}
 use Rattle.rules.proofs.Soundness.{sound-gives}
 use Rattle.rules.proofs.ChainRelation.{chain-is-given, chain-given-is, chain-one}
@@ -51,7 +57,13 @@ module _ (st : Store) (h g : Half) (lent : List Step) where
       }
     where
       before : Quiet (3 when misfit (derive h g lent) st ∷ 4 when not (sound (st .directory)) ∷ halvesConditions (ask rows) h g)
-      before = quiet (3 when misfit (derive h g lent) st ∷ 4 when not (sound (st .directory)) ∷ halvesConditions (ask rows) h g) refl admitted
+      before = (
+        denied (misfit (derive h g lent) st) (says-misfit st (derive h g lent)) (λ m. admitted 3 (omega arith) (lists m)),
+        (
+          denied (not (sound (st .directory))) (says-not (sound (st .directory)) (says-sound (st .directory))) (λ n. admitted 4 (omega arith) (directory n)),
+          halves-quiet rows h g (λ n l x. admitted n l (core (halves x))),
+        ),
+      )
 
       facts : Facts rows
       facts = sound-gives (st .directory) (unnot-false (sound (st .directory)) (before .1 .0))

@@ -9,10 +9,10 @@ use Rattle.rules.specs.Types.{Account, Pair, Link, Directory}
 use Rattle.rules.specs.Tests.{lowest}
 use Rattle.rules.specs.Entries as Entry
 use Rattle.rules.specs.Directory.{Rows, rowsOf, csdLimit, securityLimit, accountLimit, pairLimit, linkLimit}
-use Rattle.rules.specs.Entries.{Row, csdRow, securityRow, accountRow, pairRow, linkRow, rowConditions, addRow, csdsSound, securitiesSound, accountsSound, pairsSound, linksSound, withinLimits, soundRows, sound}
+use Rattle.rules.specs.Entries.{Row, csdRow, securityRow, accountRow, pairRow, linkRow, rowConditions, addRow, csdsSound, securitiesSound, accountsSound, pairsSound, linksSound, withinLimits, soundRows, sound, Sized}
 use Rattle.rules.specs.Demands.{withRow}
 use Rattle.rules.proofs.Basics.{and-both, and-true, leb-true}
-use Rattle.rules.proofs.Tables.{Sized, Room, room, added-rows}
+use Rattle.rules.proofs.Tables.{Room, room, added-rows}
 use Rattle.rules.proofs.InOrder
 use Rattle.rules.proofs.NewAccounts.{accepted-account, accepts-account}
 use Rattle.rules.proofs.NewPairs.{accepted-pair, accepts-pair}

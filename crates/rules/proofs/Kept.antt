@@ -7,10 +7,11 @@ use Prim.Native.Nat.{ℕ, _<_}
 use lib.IntN.{ℤ, pos, _+ℤ_, +ℤ-idr}
 use Rattle.rules.specs.Types.{Pair, Answer, Refused}
 use Rattle.rules.specs.Directory.{Rows, rowsOf, securityLimit}
-use Rattle.rules.specs.Entries.{csdRow, securityRow, accountRow, pairRow, linkRow}
+use Rattle.rules.specs.Entries.{csdRow, securityRow, accountRow, pairRow, linkRow, Sized}
 use Rattle.rules.specs.Calls.{Store, Call, enter, move, pay, settle, derive, isAccepted, Item, item, emptyStore}
 use Rattle.rules.specs.Demands.{grown, made, brings, brought, pays, paidIn, PairEntered, now, before, Unchanged, Changed, EachChanged, Balanced}
-use Rattle.rules.proofs.Tables.{Sized, empty-sized, empty-rows}
+use Rattle.rules.proofs.AmountRelation.{says-floored}
+use Rattle.rules.proofs.Tables.{empty-sized, empty-rows}
 use Rattle.rules.proofs.Balance.{heldSum, InBalance}
 use Rattle.rules.proofs.Funds.{allCash, Funded}
 use Rattle.rules.proofs.EmptyStore.{empty-balance, empty-supply, empty-funds, empty-money}
@@ -32,7 +33,7 @@ balanced items st K =
     record {
       books = K .inBalance .books;
       mirrors = λ p s e ne hs. K .inBalance .mirrors p (K .pairs p e) ne s hs;
-      noneNegative = K .inBalance .floor;
+      noneNegative = λ a s l k f. K .inBalance .floor a s l k (says-floored (made items .accounts) a .tests f);
       noCashNegative = K .funded .floor;
       supply = K .supply;
       money = K .money;

@@ -10,9 +10,11 @@ pub mod EntryRelation
 pub mod PairRelation
 pub mod LinkRelation
 pub mod SoundRelation
+pub mod LentRelation
 pub mod AmountRelation
 pub mod MoveRelation
 pub mod SettleRelation
+pub mod Ruling
 pub mod FirstRow
 pub mod Identifiers
 pub mod Examples

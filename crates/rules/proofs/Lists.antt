@@ -7,7 +7,7 @@ use lib.Dec.{eqb}
 use Rattle.rules.specs.Types.{Half, Step}
 use Rattle.rules.specs.Tests.{lowest}
 use Rattle.rules.specs.Directory.{Rows, rowsOf, securityLimit}
-use Rattle.rules.specs.Entries.{Row}
+use Rattle.rules.specs.Entries.{Row, Sized}
 use Rattle.rules.specs.Lookups.{ask}
 use Rattle.rules.specs.Chain.{stepsOf}
 use Rattle.rules.specs.Booking.{Way}
@@ -15,7 +15,7 @@ use Rattle.rules.specs.Calls.{Store, Call, enter, move, pay, settle, der
 use Rattle.rules.specs.Demands.{signed, Log, begins, calls, Balanced}
 use Rattle.rules.proofs.Sums.{pick-zero}
 use Rattle.rules.proofs.Facts.{Facts}
-use Rattle.rules.proofs.Tables.{Sized, added-sized, added-rows}
+use Rattle.rules.proofs.Tables.{added-sized, added-rows}
 use Rattle.rules.proofs.ChainRelation.{chain-given-is}
 use Rattle.rules.proofs.Refusals.{success-accepted}
 use Rattle.rules.proofs.Moves.{source, target, moveSteps, move-ends}

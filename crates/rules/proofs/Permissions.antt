@@ -12,9 +12,11 @@ use Rattle.rules.specs.Directory.{rowsOf, isKind}
 use Rattle.rules.specs.Lookups.{ask}
 use Rattle.rules.specs.Booking.{floored, stepShort, unitsShort, beyond, stepBeyond, unitsBeyond, cashShort, cashBeyond, paymentBeyond, cents, lessCents, heldIn, cashOn}
 use Rattle.rules.specs.Calls.{Store, bookConditions}
-use Rattle.rules.specs.Demands.{Allowed}
+use Rattle.rules.specs.Demands.{Within, Allowed}
 use Rattle.rules.proofs.Basics.{unnot, and-second, and-untrue, or-none, or-false, eqb-not, eqb-false, any-none, none-any, Quiet}
 use Rattle.rules.proofs.Int.{not-short, short-not}
+use Rattle.rules.proofs.Reflection.{denies, denied}
+use Rattle.rules.proofs.AmountRelation.{says-beyond, says-floored}
 
 not-zero : (m : ℕ) → m ≢ 0 → not (eqb m 0) ≡ true
 not-zero m n = rw (eqb-false m 0 n)
@@ -45,6 +47,26 @@ held-cash : (c : List ℤ) (a m : ℕ) → (m ≢ 0 → pos m ≤ℤ cashOn c a)
 unfolding cashShort
 held-cash c a m h = and-untrue (not (eqb m 0)) (ltZ (cashOn c a) (pos m)) (λ n. short-not (cashOn c a) m (h (zero-not m n)))
 
+-- a number that is not beyond ±10^15, by its test
+abbrev pub Bounded : ℤ → Type 0
+Bounded z = beyond z ≡ false
+
+-- what the tests say where holdings, cash and limits allow
+pub record Permitted (st : Store) (h g : Half) (steps : List Step) : Type 0 where
+  pub holdings : (x : Step) → List·Memᴰ x steps → floored (isKind (rowsOf (st .directory) .accounts)) (x .debited) ≡ true
+      → pos (h .quantity) ≤ℤ heldIn (st .positions) (h .security) (x .debited)
+  pub cash : h .amount ≢ 0 → pos (h .amount) ≤ℤ cashOn (st .cash) (g .account)
+  pub debitLimits : (x : Step) → List·Memᴰ x steps → Bounded (heldIn (st .positions) (h .security) (x .debited) -ℤ pos (h .quantity))
+  pub creditLimits : (x : Step) → List·Memᴰ x steps → Bounded (heldIn (st .positions) (h .security) (x .credited) +ℤ pos (h .quantity))
+  pub payerLimit : h .amount ≢ 0 → Bounded (cashOn (st .cash) (g .account) -ℤ pos (h .amount))
+  pub payeeLimit : h .amount ≢ 0 → Bounded (cashOn (st .cash) (h .account) +ℤ pos (h .amount))
+
+bounded : (z : ℤ) → Within z → Bounded z
+bounded z w = denied (beyond z) (says-beyond z) w
+
+within : (z : ℤ) → Bounded z → Within z
+within z b = denies (beyond z) (says-beyond z) b
+
 -- ---- with 22, over the numbers that change
 module _ (st : Store) (h g : Half) (steps : List Step) where
   abbrev acc : List Account
@@ -71,9 +93,9 @@ module _ (st : Store) (h g : Half) (steps : List Step) where
   abbrev anyCents : Bool
   anyCents = paymentBeyond (st .cash) (g .account) (h .account) (h .amount)
 
-  pub allowed-quiet : Allowed st h g steps → Quiet (bookConditions (ask (rowsOf (st .directory))) (st .positions) (st .cash) h g steps)
+  permitted-quiet : Permitted st h g steps → Quiet (bookConditions (ask (rowsOf (st .directory))) (st .positions) (st .cash) h g steps)
   unfolding unitsBeyond cashBeyond paymentBeyond
-  allowed-quiet A =
+  permitted-quiet A =
       let units =
       none-any (stepBeyond (st .positions) (h .security) (h .quantity)) steps
       (λ x m. or-false (lessBeyond x) (moreBeyond x) (A .debitLimits x m) (A .creditLimits x m)) in
@@ -84,7 +106,7 @@ module _ (st : Store) (h g : Half) (steps : List Step) where
         (held-cash (st .cash) (g .account) (h .amount) (A .cash), (or-false anyUnits anyCents units payment, tt)),
       )
 
-  pub quiet-allowed : Quiet (bookConditions (ask (rowsOf (st .directory))) (st .positions) (st .cash) h g steps) → Allowed st h g steps
+  pub quiet-allowed : Quiet (bookConditions (ask (rowsOf (st .directory))) (st .positions) (st .cash) h g steps) → Permitted st h g steps
   unfolding unitsBeyond cashBeyond paymentBeyond
   quiet-allowed q =
       record {
@@ -104,3 +126,26 @@ module _ (st : Store) (h g : Half) (steps : List Step) where
 
       balances : h .amount ≢ 0 → (payerBeyond || payeeBeyond) ≡ false
       balances n = and-second (not (eqb (h .amount) 0)) (payerBeyond || payeeBeyond) (numbers .1) (not-zero (h .amount) n)
+
+  -- the same in the relations' words
+  pub allowed-quiet : Allowed st h g steps → Quiet (bookConditions (ask (rowsOf (st .directory))) (st .positions) (st .cash) h g steps)
+  allowed-quiet A =
+      permitted-quiet (record {
+        holdings = λ x m f. A .holdings x m (says-floored acc (x .debited) .holds f);
+        cash = A .cash;
+        debitLimits = λ x m. bounded _ (A .debitLimits x m);
+        creditLimits = λ x m. bounded _ (A .creditLimits x m);
+        payerLimit = λ n. bounded _ (A .payerLimit n);
+        payeeLimit = λ n. bounded _ (A .payeeLimit n);
+      })
+
+  pub permitted-allowed : Permitted st h g steps → Allowed st h g steps
+  permitted-allowed P =
+      record {
+        holdings = λ x m f. P .holdings x m (says-floored acc (x .debited) .tests f);
+        cash = P .cash;
+        debitLimits = λ x m. within _ (P .debitLimits x m);
+        creditLimits = λ x m. within _ (P .creditLimits x m);
+        payerLimit = λ n. within _ (P .payerLimit n);
+        payeeLimit = λ n. within _ (P .payeeLimit n);
+      }

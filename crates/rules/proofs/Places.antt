@@ -1,13 +1,15 @@
 -- Conditions in the order of places: where each test says its number's proposition once those before it fail, the number given is the
 -- first that applies.
 use mathlib.Core.Path.{_≡_, refl}
+use mathlib.Core.Logic.{_≢_}
 use mathlib.Core.Bool.{Bool, true, false, cond}
 use mathlib.Core.List.{List, [], _∷_, List·Memᴰ, List·Memᴰ·head, List·Memᴰ·tail}
-use Prim.Native.Nat.{ℕ, zero, suc}
+use Prim.Native.Nat.{ℕ, zero, suc, _+_, _≤_, _<_}
 use native.Mathlib.Omega.{arith}
+use lib.Dec.{eqb}
 use Rattle.rules.specs.Tests.{Condition, _when_, lowest}
-use Rattle.rules.specs.Refusals.{First, now, later}
-use Rattle.rules.proofs.Basics.{clash}
+use Rattle.rules.specs.Refusals.{places, First, now, later}
+use Rattle.rules.proofs.Basics.{clash, eqb-is, eqb-not}
 use Rattle.rules.proofs.Reflection.{Says, says-as, denies, denied}
 
 -- the conditions cs render the propositions P of the numbers ns
@@ -65,3 +67,26 @@ renders-as f g (skip {m = m} never r) = skip (λ q. never (g m (List·Memᴰ·he
 renders-as f g (test {m = m} S r) =
     test (says-as S (f (suc m) (List·Memᴰ·head refl)) (g (suc m) (List·Memᴰ·head refl)))
     (λ e. renders-as (λ n i. f n (List·Memᴰ·tail i)) (λ n i. g n (List·Memᴰ·tail i)) (r e))
+
+-- ---- numbers one after another
+
+-- the numbers from lo on, k of them, before ns
+abbrev pub upFrom : ℕ → ℕ → List ℕ → List ℕ
+upFrom lo zero ns = ns
+upFrom lo (suc k) ns = lo ∷ upFrom (suc lo) k ns
+
+listed : (k lo n : ℕ) (ns : List ℕ) → lo ≤ n → n < lo + k → List·Memᴰ n (upFrom lo k ns)
+listed zero lo n ns l h = absurd (omega arith)
+listed (suc k) lo n ns l h = go (eqb n lo) refl (λ ne. listed k (suc lo) n ns (omega (arith, ne)) (omega arith))
+  where
+    go : (b : Bool) → eqb n lo ≡ b → (n ≢ lo → List·Memᴰ n (upFrom (suc lo) k ns)) → List·Memᴰ n (lo ∷ upFrom (suc lo) k ns)
+    go true e below = List·Memᴰ·head (eqb-is n lo e)
+    go false e below = List·Memᴰ·tail (below (eqb-not n lo e))
+
+pub in-places : (n : ℕ) → 3 ≤ n → n ≤ 22 → List·Memᴰ n places
+in-places n l h = listed 20 3 n [] l (omega arith)
+
+pub not-below : (k lo n : ℕ) → List·Memᴰ n (upFrom lo k []) → lo ≤ n
+not-below zero lo n i = elim i [ ]
+not-below (suc k) lo n (List·Memᴰ·head e) = omega arith
+not-below (suc k) lo n (List·Memᴰ·tail i) = omega (arith, not-below k (suc lo) n i)

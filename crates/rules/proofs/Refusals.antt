@@ -1,22 +1,25 @@
--- Demand 1, and the rule of refusals: the conditions of every call are listed by ascending numbers, 3 to 22.
+-- Demand 1: the conditions of every call and of the totals are listed by ascending numbers, 3 to 22.
 use mathlib.Core.Path.{_≡_, refl, sym, ap, _∙_}
 use mathlib.Core.Logic.{_⊎_, inl, inr}
 use mathlib.Core.Bool.{true, true≢false}
+use mathlib.Core.List.{List}
 use mathlib.Core.Option.{Option, none, some}
 use Prim.Native.Nat.{ℕ, zero, suc, _≤_}
 use native.Mathlib.Omega.{arith}
-use Rattle.rules.specs.Types.{Half, Refused}
+use Rattle.rules.specs.Types.{Directory, Half, Units, Cents, Refused}
+use lib.IntN.{ℤ}
 use Rattle.rules.specs.Tests.{lowest}
 use Rattle.rules.specs.Directory.{Rows, rowsOf}
 use Rattle.rules.specs.Entries.{Row, csdRow, securityRow, accountRow, pairRow, linkRow, rowConditions}
 use Rattle.rules.specs.Lookups.{homeOf, ask}
 use Rattle.rules.specs.Chain.{unchained, stepsOf, chainConditions}
-use Rattle.rules.specs.Booking.{Way, contra, moveBy, moveChain}
-use Rattle.rules.specs.Calls.{Store, Call, enter, move, pay, settle, derive, desk, core, outcome, success, coreConditions, deskConditions, halvesConditions, halvesChain, deriveConditions, bookConditions, isAccepted, numberOf}
-use Rattle.rules.specs.Demands.{Applies, Ruled, Refuses}
+use Rattle.rules.specs.Booking.{Way, contra, moveBy, moveChain, securityTotalBy, cashTotalBy}
+use Rattle.rules.specs.Calls.{Store, Call, enter, move, pay, settle, derive, desk, core, outcome, success, coreConditions, deskConditions, halvesConditions, halvesChain, deriveConditions, bookConditions, isAccepted, numberOf, unitsNumber, centsNumber, deskUnitsConditions, deskCashConditions, deskSecurityTotal, deskCashTotal}
+use Rattle.rules.specs.Demands.{Numbered, Refuses}
 use Rattle.rules.proofs.Basics.{impossible, Quiet, quiet}
+use Rattle.rules.proofs.Places.{in-places}
 use Rattle.rules.proofs.ChainSize.{chain-number}
-use Rattle.rules.proofs.Conditions.{ascending, ascending-lower, ascending-append, ascending-numbered, lowest-range, lowest-applies, nothing-lowest, lowest-least, chain-ascends}
+use Rattle.rules.proofs.Conditions.{ascending, ascending-lower, ascending-append, ascending-numbered, lowest-range, chain-ascends}
 
 -- ---- the calls' conditions ascend
 move-number : (r : Rows) (w : Way) (a s n : ℕ) → moveChain (ask r) w a s ≡ unchained n → n ≡ 19
@@ -94,7 +97,7 @@ outcome-refuses zero c st h =
       stepsAsBefore = λ e. absurd (true≢false (sym (success-accepted c st) ∙ e));
     }
 outcome-refuses (suc n) c st (inl e) = absurd (omega arith)
-outcome-refuses (suc n) c st (inr h) = record { byNumber = λ e. h; storeAsBefore = λ e. refl; stepsAsBefore = λ e. refl }
+outcome-refuses (suc n) c st (inr h) = record { byNumber = λ e. in-places (suc n) (h .0) (h .1); storeAsBefore = λ e. refl; stepsAsBefore = λ e. refl }
 
 pub desk-refuses : (c : Call) (st : Store) → Refuses c st (desk c st)
 unfolding desk
@@ -106,23 +109,22 @@ core-refuses c st =
     outcome-refuses (lowest (coreConditions c st)) c st
     (lowest-range 3 22 (coreConditions c st) (ascending-lower 3 5 22 (coreConditions c st) (omega arith) (core-ascends c st)))
 
--- ---- accepted exactly when no number applies; else the lowest that applies is answered
-pub ruled : (c : Call) (st : Store) → Ruled c st
-unfolding desk
-ruled c st =
-    record {
-      whenClear = λ clear. ap (λ (n : ℕ). outcome n c st .answer) (nothing-lowest (deskConditions c st) clear);
-      onlyThen = λ e m x.
-          let f : lowest (deskConditions c st) ≡ 0 = accepted-lowest c st e in
-          let l : 3 ≤ lowest (deskConditions c st) = lowest-least 3 22 m (deskConditions c st) (desk-ascends c st) x .0 in
-          omega arith;
-      applies = λ n e. answered (lowest (deskConditions c st)) n refl (refused-number n (lowest (deskConditions c st)) c st e);
-      lowestOf = λ n m e x.
-          let f : lowest (deskConditions c st) ≡ n = refused-number n (lowest (deskConditions c st)) c st e .0 in
-          let l : lowest (deskConditions c st) ≤ m = lowest-least 3 22 m (deskConditions c st) (desk-ascends c st) x .1 in
-          omega arith;
-    }
-  where
-    answered : (m n : ℕ) → lowest (deskConditions c st) ≡ m → (m ≡ n) × (1 ≤ m) → Applies n (deskConditions c st)
-    answered zero n f (e, l) = absurd (omega arith)
-    answered (suc m) n f (e, l) = rw (← e) (lowest-applies m (deskConditions c st) f)
+-- ---- the totals
+units-by : (n : ℕ) (z : Units) → (n ≡ 0) ⊎ ((3 ≤ n) × (n ≤ 22)) → Numbered (unitsNumber (securityTotalBy n z))
+units-by zero z h = λ ne. absurd (ne refl)
+units-by (suc n) z (inl e) = absurd (omega arith)
+units-by (suc n) z (inr h) = λ ne. in-places (suc n) (h .0) (h .1)
+
+pub units-numbered : (d : Directory) (p : List ℤ) (s : ℕ) → Numbered (unitsNumber (deskSecurityTotal d p s))
+unfolding deskSecurityTotal
+units-numbered d p s =
+    units-by (lowest (deskUnitsConditions d p s)) _ (lowest-range 3 22 (deskUnitsConditions d p s) refl)
+
+cents-by : (n : ℕ) (z : Cents) → (n ≡ 0) ⊎ ((3 ≤ n) × (n ≤ 22)) → Numbered (centsNumber (cashTotalBy n z))
+cents-by zero z h = λ ne. absurd (ne refl)
+cents-by (suc n) z (inl e) = absurd (omega arith)
+cents-by (suc n) z (inr h) = λ ne. in-places (suc n) (h .0) (h .1)
+
+pub cents-numbered : (c : List ℤ) → Numbered (centsNumber (deskCashTotal c))
+unfolding deskCashTotal
+cents-numbered c = cents-by (lowest (deskCashConditions c)) _ (lowest-range 3 22 (deskCashConditions c) refl)

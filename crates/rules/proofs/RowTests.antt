@@ -56,6 +56,22 @@ pub books-of : (acc : List Account) (a c : ℕ) (y : Account) → Is acc a y →
 unfolding inBooks
 books-of acc a c y e = rw e
 
+pub says-kind-is : (acc : List Account) (a k : ℕ) → Says ((x : Account) × Is acc a x × (x .kind ≡ k)) (isKind acc a k)
+unfolding isKind
+says-kind-is acc a k = go (getElem? acc a) refl
+  where
+    go : (o : Option Account) → getElem? acc a ≡ o → Says ((x : Account) × Is acc a x × (x .kind ≡ k)) (kindIs k o)
+    go none e = record { holds = λ f. clash true refl (sym f); tests = λ h. let f = h .1 in impossible (cc) }
+    go (some x) e = says-as (says-eq (x .kind) k) (λ f. (x, e, f)) (λ h. let f = h .1 in let same : h .0 ≡ x = cc in rw same at (h .2))
+
+pub says-csd-is : (acc : List Account) (a c : ℕ) → Says ((x : Account) × Is acc a x × (x .csd ≡ c)) (inBooks acc a c)
+unfolding inBooks
+says-csd-is acc a c = go (getElem? acc a) refl
+  where
+    go : (o : Option Account) → getElem? acc a ≡ o → Says ((x : Account) × Is acc a x × (x .csd ≡ c)) (csdIs c o)
+    go none e = record { holds = λ f. clash true refl (sym f); tests = λ h. let f = h .1 in impossible (cc) }
+    go (some x) e = says-as (says-eq (x .csd) c) (λ f. (x, e, f)) (λ h. let f = h .1 in let same : h .0 ≡ x = cc in rw same at (h .2))
+
 -- an account of another CSD, or of another kind
 pub says-other-kind : (acc : List Account) (a k : ℕ) (y : Account) → Is acc a y → Says ((z : Account) × Is acc a z × (z .kind ≢ k)) (not (isKind acc a k))
 says-other-kind acc a k y e =

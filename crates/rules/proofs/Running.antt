@@ -8,10 +8,10 @@ use lib.IntN.{ℤ}
 use lib.Dec.{eqb}
 use lib.ListN.{length}
 use Rattle.rules.specs.Tests.{lowest}
-use Rattle.rules.specs.Entries.{sound}
+use Rattle.rules.specs.Entries.{sound, Sized}
 use Rattle.rules.specs.Booking.{positionCount, cashCount, payment, paid, cents, lessCents, addCents}
 use Rattle.rules.specs.Calls.{Store, Call, enter, move, pay, settle, derive, misfit, coreConditions, chainFor, changed, outcome, core, desk, emptyStore}
-use Rattle.rules.proofs.Tables.{Sized, empty-sized, empty-sound, added-sized}
+use Rattle.rules.proofs.Tables.{empty-sized, empty-sound, added-sized}
 use Rattle.rules.proofs.Growth.{keeps-sound}
 use Rattle.rules.proofs.Bookings.{booked-length}
 use Rattle.rules.proofs.Payments.{cents-length}

@@ -18,10 +18,10 @@ use Rattle.rules.specs.Calls.{halfUnknown, halfOutOfRange, halvesDiffer,
 use Rattle.rules.specs.Relations.{ChainIs}
 use Rattle.rules.specs.Refusals
 use Rattle.rules.specs.Refusals.{Is, NoRow, Beyond, Short, Exceeds, First, now, later, HalfRefused, HalvesRefused, ChainRefused, DeriveRefused, SettleRefused}
-use Rattle.rules.proofs.Basics.{impossible, or-none, eqb-is, eqb-not}
+use Rattle.rules.proofs.Basics.{impossible, or-none, eqb-is, eqb-not, Quiet}
 use Rattle.rules.proofs.Several.{none-hold}
-use Rattle.rules.proofs.Reflection.{Says, says-as, says-or, says-and, says-eq, says-ne, says-lt}
-use Rattle.rules.proofs.Places.{Renders, end, skip, test, stop}
+use Rattle.rules.proofs.Reflection.{Says, says-as, says-or, says-and, says-eq, says-ne, says-lt, denied}
+use Rattle.rules.proofs.Places.{Renders, end, skip, test, stop, upFrom}
 use Rattle.rules.proofs.RowTests.{says-no-row, known, says-other-kind, says-other-csd}
 use Rattle.rules.proofs.AmountRelation.{says-less, says-beyond, says-units-short, says-units-beyond, says-out-of-range}
 use Rattle.rules.proofs.EntryRelation.{entryPlaces}
@@ -165,7 +165,7 @@ module _ (r : Rows) (h g : Half) where
       from (Refusals.sameAccount x) = x
 
   -- no number but these five
-  halves-else : (n : ℕ) → n ≢ 6 → n ≢ 7 → n ≢ 10 → n ≢ 12 → n ≢ 13 → HalvesRefused r h g n → ⊥
+  pub halves-else : (n : ℕ) → n ≢ 6 → n ≢ 7 → n ≢ 10 → n ≢ 12 → n ≢ 13 → HalvesRefused r h g n → ⊥
   halves-else n a b c d e (Refusals.delivering x) = half-else r h n a b c x
   halves-else n a b c d e (Refusals.receiving x) = half-else r g n a b c x
   halves-else n a b c d e (Refusals.securities x) = d refl
@@ -174,6 +174,20 @@ module _ (r : Rows) (h g : Half) where
   halves-else n a b c d e (Refusals.receiverCsd y i k) = d refl
   halves-else n a b c d e (Refusals.delivererCsd y i k) = d refl
   halves-else n a b c d e (Refusals.sameAccount x) = e refl
+
+  -- where no number applies to the halves, no condition does
+  pub halves-quiet : ((n : ℕ) → n < 14 → HalvesRefused r h g n → ⊥) → Quiet (halvesConditions (ask r) h g)
+  halves-quiet clear =
+      let e6 = denied unknown halves-unknown (clear 6 (omega arith)) in (
+        e6,
+        (
+          denied (halfOutOfRange h || halfOutOfRange g) halves-range (clear 7 (omega arith)),
+          (
+            denied (not (isKind (r .accounts) (h .account) 0) || not (isKind (r .accounts) (g .account) 0)) (halves-kind e6) (clear 10 (omega arith)),
+            (denied (halvesDiffer (ask r) h g) (halves-differ e6) (clear 12 (omega arith)), (denied (eqb (h .account) (g .account)) halves-same (clear 13 (omega arith)), tt)),
+          ),
+        ),
+      )
 
 -- ---- a derivation, and what a call asks behind it
 module _ (r : Rows) (F : Facts r) (h g : Half) where
@@ -197,11 +211,6 @@ module _ (r : Rows) (F : Facts r) (h g : Half) where
   as-chain : (n : ℕ) → 14 ≤ n → DeriveRefused r h g n → ChainRefused r (h .security) D R n
   as-chain n l (Refusals.halves x) = absurd (halves-else r h g n (λ e. omega arith) (λ e. omega arith) (λ e. omega arith) (λ e. omega arith) (λ e. omega arith) x)
   as-chain n l (Refusals.chain c) = c
-
-  -- the numbers from lo on, k of them, before ns
-  abbrev upFrom : ℕ → ℕ → List ℕ → List ℕ
-  upFrom lo zero ns = ns
-  upFrom lo (suc k) ns = lo ∷ upFrom (suc lo) k ns
 
   abbrev called : Chain
   called = halvesChain (ask r) h g

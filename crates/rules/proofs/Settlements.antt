@@ -1,5 +1,6 @@
 -- Demand 2, booking: a settlement's tests say that its pair is bookable, and its chain's accounts are distinct, so each moves once.
 use mathlib.Core.Path.{_≡_, refl, sym, ap, subst, _∙_}
+use mathlib.Core.Bool.{true}
 use mathlib.Core.List.{List}
 use Prim.Native.Nat.{ℕ}
 use lib.ListN.{length}
@@ -10,17 +11,20 @@ use Rattle.rules.specs.Entries.{sound}
 use Rattle.rules.specs.Lookups.{ask}
 use Rattle.rules.specs.Chain.{chained, stepsOf, chainConditions}
 use Rattle.rules.specs.Booking.{booked, paid}
-use Rattle.rules.specs.Calls.{Store, Call, settle, Outcome, outcome, desk, deskConditions, halvesConditions, halvesChain, deriveConditions, bookConditions, isAccepted, countOf}
+use Rattle.rules.specs.Calls.{Store, Call, settle, Outcome, outcome, desk, misfit, deskConditions, halvesConditions, halvesChain, deriveConditions, bookConditions, isAccepted, countOf}
 use Rattle.rules.specs.Demands.{MovedUnits, MovedCents, Bookable, BookedPair, Books}
 use Rattle.rules.proofs.Basics.{not-true, Quiet, loud}
+use Rattle.rules.proofs.Reflection.{denies, denied}
+use Rattle.rules.proofs.SoundRelation.{says-sound}
+use Rattle.rules.proofs.LentRelation.{says-misfit}
 use Rattle.rules.proofs.Facts.{Facts}
 use Rattle.rules.proofs.Soundness.{sound-gives}
 use Rattle.rules.proofs.ChainRelation.{chain-is-given, chain-given-is}
 use Rattle.rules.proofs.ChainSize.{chain-few}
 use Rattle.rules.proofs.Conditions.{both-quiet, chained-quiet}
 use Rattle.rules.proofs.Refusals.{desk-quiet, desk-clear, accepted-lowest}
-use Rattle.rules.proofs.Agreement.{agree-quiet}
-use Rattle.rules.proofs.Permissions.{allowed-quiet}
+use Rattle.rules.proofs.Agreement.{agree-quiet, agreed-agree}
+use Rattle.rules.proofs.Permissions.{allowed-quiet, permitted-allowed}
 use Rattle.rules.proofs.Bookings.{transfer-moves}
 use Rattle.rules.proofs.Payments.{paid-moves}
 use Rattle.rules.proofs.Accepted.{books-sound, facts-of, SettleFacts, settle-facts}
@@ -64,16 +68,17 @@ module _ (st : Store) (h g : Half) (lent : List Step) where
 
   when-bookable : (xs : List Step) → Bookable st h g lent xs → BookedPair st h g lent xs
   when-bookable xs B =
-      let facts : Facts rows = sound-gives (st .directory) (B .soundBooks) in
+      let fine : sound (st .directory) ≡ true = says-sound (st .directory) .tests (B .soundBooks) in
+      let facts : Facts rows = sound-gives (st .directory) fine in
       let is : halvesChain (ask rows) h g ≡ chained xs = chain-is-given rows facts (h .security) (h .account) (g .account) xs (B .chain) in
       let chosen : steps ≡ xs = ap stepsOf is in
       subst (λ (ys : List Step). BookedPair st h g lent ys) chosen
       (booked-pair (loud (deskConditions call st) (
-        B .fits,
+        denied (misfit call st) (says-misfit st call) (B .fits),
         (
-          not-true (sound (st .directory)) (B .soundBooks),
+          not-true (sound (st .directory)) fine,
           both-quiet (deriveConditions (ask rows) h g) (booking steps)
-              (both-quiet (halvesConditions (ask rows) h g) (chainConditions (halvesChain (ask rows) h g)) (agree-quiet rows h g (B .agree)) (chained-quiet (halvesChain (ask rows) h g) xs is))
+              (both-quiet (halvesConditions (ask rows) h g) (chainConditions (halvesChain (ask rows) h g)) (agree-quiet rows h g facts (B .agree)) (chained-quiet (halvesChain (ask rows) h g) xs is))
               (subst (λ (ys : List Step). Quiet (booking ys)) (sym chosen) (allowed-quiet st h g xs (B .allowed))),
         ),
       )))
@@ -85,11 +90,11 @@ module _ (st : Store) (h g : Half) (lent : List Step) where
       let pair : BookedPair st h g lent steps = booked-pair free in (
         steps,
         record {
-          fits = desk-quiet call st free .0;
-          soundBooks = books-sound call st free;
-          agree = S .agree;
+          fits = denies (misfit call st) (says-misfit st call) (desk-quiet call st free .0);
+          soundBooks = says-sound (st .directory) .holds (books-sound call st free);
+          agree = agreed-agree rows h g (S .agree);
           chain = chain-given-is rows (facts-of call st free) (h .security) (h .account) (g .account) steps (S .chain);
-          allowed = S .allowed;
+          allowed = permitted-allowed st h g steps (S .allowed);
         },
         ap countOf (sym e ∙ pair .returns .answers),
         pair,

@@ -10,17 +10,9 @@ use lib.Seq.{take-suc-set}
 use Rattle.rules.specs.Types.{Directory}
 use Rattle.rules.specs.Tests.{isFull, lowest}
 use Rattle.rules.specs.Directory.{rowsOf, csdLimit, securityLimit, accountLimit, pairLimit, linkLimit}
-use Rattle.rules.specs.Entries.{Row, csdRow, securityRow, accountRow, pairRow, linkRow, rowConditions, addRow, emptyDirectory, sound, withinLimits, soundRows, csdsSound, securitiesSound, accountsSound, pairsSound, linksSound, blankCsd, blankSecurity, blankAccount, blankPair, blankLink}
+use Rattle.rules.specs.Entries.{Row, csdRow, securityRow, accountRow, pairRow, linkRow, rowConditions, addRow, emptyDirectory, Sized, sound, withinLimits, soundRows, csdsSound, securitiesSound, accountsSound, pairsSound, linksSound, blankCsd, blankSecurity, blankAccount, blankPair, blankLink}
 use Rattle.rules.specs.Demands.{withRow, noRows}
 use Rattle.rules.proofs.Basics.{leb-not, quiet}
-
--- the arrays have the lengths that their types say
-pub record Sized (d : Directory) : Type 0 where
-  pub csds : length (d .csds .rows) ≡ csdLimit
-  pub securities : length (d .securities .rows) ≡ securityLimit
-  pub accounts : length (d .accounts .rows) ≡ accountLimit
-  pub pairs : length (d .pairs .rows) ≡ pairLimit
-  pub links : length (d .links .rows) ≡ linkLimit
 
 -- ---- the empty directory
 pub empty-sized : Sized emptyDirectory

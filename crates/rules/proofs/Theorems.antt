@@ -1,16 +1,17 @@
 -- The customer's three demands, proved of the definitions with no hypothesis left.
 use Rattle.rules.specs.Demands.{Demand1, Demand2, Demand3}
-use Rattle.rules.proofs.Refusals.{desk-refuses, core-refuses, ruled}
+use Rattle.rules.proofs.Refusals.{desk-refuses, core-refuses, units-numbered, cents-numbered}
+use Rattle.rules.proofs.Ruling.{ruled, totalled}
 use Rattle.rules.proofs.Derivations.{derives}
 use Rattle.rules.proofs.Settlements.{books}
 use Rattle.rules.proofs.Changes.{changes}
 use Rattle.rules.proofs.Lists.{lists-balance, logs-balance}
 
 pub demand1 : Demand1
-demand1 = record { desks = desk-refuses; cores = core-refuses }
+demand1 = record { desks = desk-refuses; cores = core-refuses; unitsTotals = units-numbered; cashTotals = cents-numbered }
 
 pub demand2 : Demand2
-demand2 = record { derives = derives; books = books; ruled = ruled; changes = changes }
+demand2 = record { derives = derives; books = books; ruled = ruled; changes = changes; totals = totalled }
 
 pub demand3 : Demand3
 demand3 = record { lists = lists-balance; logs = logs-balance }

@@ -5,7 +5,7 @@ use mathlib.Core.List.{List, [], _∷_, _++_}
 use lib.IntN.{ℤ, pos}
 use lib.Dec.{ltb, eqb}
 use lib.ListN.{length, drop}
-use Rattle.rules.specs.Types.{Directory, Half, Step, Answer, Accepted, Booked, Chained, Refused, SecurityTotal, CashTotal}
+use Rattle.rules.specs.Types.{Directory, Half, Step, Answer, Accepted, Booked, Chained, Refused, SecurityTotal, SumUnits, NoUnits, CashTotal, SumCents, NoCents}
 use Rattle.rules.specs.Tests.{Condition, _when_, lowest}
 use Rattle.rules.specs.Directory.{rowsOf}
 use Rattle.rules.specs.Entries.{Row, rowConditions, addRow, emptyDirectory, sound}
@@ -51,6 +51,16 @@ isAccepted Accepted = true
 isAccepted (Booked k) = true
 isAccepted (Chained k) = true
 isAccepted (Refused n) = false
+
+-- this paper's number for the answer of a total: the refusal, and 0 for a sum
+abbrev pub unitsNumber : SecurityTotal → ℕ
+unitsNumber (SumUnits z) = 0
+unitsNumber (NoUnits n) = n
+
+-- of cash
+abbrev pub centsNumber : CashTotal → ℕ
+centsNumber (SumCents z) = 0
+centsNumber (NoCents n) = n
 
 -- ---- two halves
 
@@ -196,17 +206,22 @@ desk c st = outcome (lowest (deskConditions c st)) c st
 
 -- ---- the totals, which change nothing
 
--- the total of a security as the desk's software asks for it: 3, 4, then 6 and 22
-unfoldable pub deskSecurityTotal : Directory → List ℤ → ℕ → SecurityTotal
-deskSecurityTotal d p s =
-    Booking.securityTotalBy
-    (lowest (3 when not (eqb (length p) positionCount) ∷ 4 when not (sound d) ∷ Booking.securityTotalConditions (ask (rowsOf d)) p s))
-    (Booking.participantSum (ask (rowsOf d) .kind) p s)
+-- 3, 4, 6 and 22 of the total of a security
+abbrev pub deskUnitsConditions : Directory → List ℤ → ℕ → List Condition
+deskUnitsConditions d p s =
+    3 when not (eqb (length p) positionCount) ∷ 4 when not (sound d) ∷ Booking.securityTotalConditions (ask (rowsOf d)) p s
 
--- the total of cash: 3, then 22
+-- the total of a security as the desk's software asks for it
+unfoldable pub deskSecurityTotal : Directory → List ℤ → ℕ → SecurityTotal
+deskSecurityTotal d p s = Booking.securityTotalBy (lowest (deskUnitsConditions d p s)) (Booking.participantSum (ask (rowsOf d) .kind) p s)
+
+-- 3 and 22 of the total of cash
+abbrev pub deskCashConditions : List ℤ → List Condition
+deskCashConditions c = 3 when not (eqb (length c) cashCount) ∷ Booking.cashTotalConditions c
+
+-- the total of cash
 unfoldable pub deskCashTotal : List ℤ → CashTotal
-deskCashTotal c =
-    Booking.cashTotalBy (lowest (3 when not (eqb (length c) cashCount) ∷ Booking.cashTotalConditions c)) (Booking.cashSum c)
+deskCashTotal c = Booking.cashTotalBy (lowest (deskCashConditions c)) (Booking.cashSum c)
 
 -- ---- a list of calls
 

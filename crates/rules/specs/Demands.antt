@@ -1,48 +1,52 @@
 -- The customer's three demands as claims about the definitions. Each is proved in proofs/; a reader holds them against his words.
 use mathlib.Core.Path.{_≡_}
 use mathlib.Core.Logic.{_≢_}
-use mathlib.Core.Bool.{Bool, true, false, not, _||_, cond}
+use mathlib.Core.Bool.{Bool, true, false, cond}
 use mathlib.Core.List.{List, [], _∷_, _++_, List·Memᴰ}
-use mathlib.Core.Option.{some}
 use Prim.Native.Nat.{ℕ, _≤_, _<_}
 use lib.IntN.{ℤ, pos, negℤ, _+ℤ_, _-ℤ_}
 use lib.Signed.{_≤ℤ_}
 use lib.Dec.{eqb}
 use lib.ListN.{length}
-use Rattle.rules.specs.Types.{Account, Pair, Half, Step, Answer, Accepted, Booked, Chained, Refused}
-use Rattle.rules.specs.Tests.{Condition, _when_, lowest}
+use Rattle.rules.specs.Types.{Account, Pair, Directory, Half, Step, Answer, Accepted, Booked, Chained, Refused, SumUnits, SumCents}
 use Rattle.rules.specs.Directory.{Rows, rowsOf, isKind, inBooks, noAccount, accountLimit, securityLimit}
-use Rattle.rules.specs.Entries.{Row, csdRow, securityRow, accountRow, pairRow, linkRow, addRow, sound}
-use Rattle.rules.specs.Lookups.{homeOf, ask}
+use Rattle.rules.specs.Entries.{Row, csdRow, securityRow, accountRow, pairRow, linkRow, addRow, Sized}
+use Rattle.rules.specs.Lookups.{homeOf}
 use Rattle.rules.specs.Chain.{stepLimit}
-use Rattle.rules.specs.Booking.{Way, incoming, outgoing, limit, cashCount, heldIn, cashOn, sum, everyAccount, participants, beyond, contra, moveStep, payment}
-use Rattle.rules.specs.Calls.{Store, Call, enter, move, pay, settle, derive, Outcome, Item, item, run, desk, core, misfit, deskConditions, halfUnknown, halvesConditions, success, written, lentSteps, isAccepted, numberOf, emptyStore}
+use Rattle.rules.specs.Booking.{Way, incoming, outgoing, limit, cashCount, heldIn, cashOn, sum, everyAccount, participants, participantSum, cashSum, moveStep, payment}
+use Rattle.rules.specs.Calls.{Store, Call, enter, move, pay, settle, derive, Outcome, Item, item, run, desk, core, deskSecurityTotal, deskCashTotal, success, written, lentSteps, isAccepted, numberOf, unitsNumber, centsNumber, emptyStore}
 use Rattle.rules.specs.Relations.{ChainIs}
+use Rattle.rules.specs.Refusals.{places, NoneApplies, First, Is, ParticipantOrOmnibus, Beyond, Sound, Misfits, ContraOf, Applies, UnitsTotalRefused, CashTotalRefused}
 
--- ---- Demand 1: "What it can't accept it refuses by document 01's number; directory, positions, cash and step list are then as before."
+-- ---- Demand 1: "What it can't accept it refuses by the documents' number; directory, positions, cash and step list are then as before."
+
+-- a number of document 01, or none
+abbrev pub Numbered : ℕ → Type 0
+Numbered n = n ≢ 0 → List·Memᴰ n places
 
 -- of one call with its outcome: a refusal is a number of document 01, and leaves everything as it was
 pub record Refuses (c : Call) (st : Store) (o : Outcome) : Type 0 where
-  pub byNumber : isAccepted (o .answer) ≡ false → (3 ≤ numberOf (o .answer)) × (numberOf (o .answer) ≤ 22)
+  pub byNumber : isAccepted (o .answer) ≡ false → List·Memᴰ (numberOf (o .answer)) places
   pub storeAsBefore : isAccepted (o .answer) ≡ false → o .store ≡ st
   pub stepsAsBefore : isAccepted (o .answer) ≡ false → o .steps ≡ lentSteps c
 
--- on every store and operands, with and without the tests 3 and 4
+-- on every store and operands, with and without the tests 3 and 4. A total is handed nothing that it could change.
 pub record Demand1 : Type 0 where
   pub desks : (c : Call) (st : Store) → Refuses c st (desk c st)
   pub cores : (c : Call) (st : Store) → Refuses c st (core c st)
+  pub unitsTotals : (d : Directory) (p : List ℤ) (s : ℕ) → Numbered (unitsNumber (deskSecurityTotal d p s))
+  pub cashTotals : (c : List ℤ) → Numbered (centsNumber (deskCashTotal c))
 
--- ---- Demand 2, the chain: "For two halves that nothing before 14 turns away, a derivation returns a chain exactly when document 01's
--- T2S rules give one and its account pairs are entered, and it is that chain"
+-- ---- Demand 2, the chain: "For two halves that nothing before 14 turns away, a derivation returns a chain exactly when document 01's T2S
+-- rules give one and its account pairs are entered, and it is that chain"
 
 -- the steps are the chain of these halves
 abbrev pub ChainOfHalves : Store → Half → Half → List Step → Type 0
 ChainOfHalves st h g steps = ChainIs (rowsOf (st .directory)) (h .security) (h .account) (g .account) steps
 
--- nothing before 14 turns the halves away
+-- "nothing before 14 turns away"
 abbrev pub Admitted : Store → Half → Half → List Step → Type 0
-Admitted st h g lent =
-    lowest (3 when misfit (derive h g lent) st ∷ 4 when not (sound (st .directory)) ∷ halvesConditions (ask (rowsOf (st .directory))) h g) ≡ 0
+Admitted st h g lent = (n : ℕ) → n < 14 → Applies (derive h g lent) st n → ⊥
 
 -- a call has answered this chain, and written it to the step list that it was lent
 pub record Returns (o : Outcome) (answer : Answer) (steps lent : List Step) : Type 0 where
@@ -83,28 +87,31 @@ pub record MovedCents (payer payee m : ℕ) (before after : List ℤ) : Type 0 w
 
 -- within ±10^15
 abbrev pub Within : ℤ → Type 0
-Within z = beyond z ≡ false
+Within z = Beyond z → ⊥
 
--- the halves agree on two participant accounts
+-- a participant account
+abbrev pub Participant : List Account → ℕ → Type 0
+Participant acc a = (x : Account) × Is acc a x × (x .kind ≡ 0)
+
+-- an account of this CSD
+abbrev pub AccountOf : List Account → ℕ → ℕ → Type 0
+AccountOf acc a c = (x : Account) × Is acc a x × (x .csd ≡ c)
+
+-- "its halves agree on two participant accounts"
 pub record Agree (r : Rows) (h g : Half) : Type 0 where
-  pub delivererNamed : halfUnknown (ask r) h ≡ false
-  pub receiverNamed : halfUnknown (ask r) g ≡ false
-  pub quantity : (1 ≤ h .quantity) × (h .quantity ≤ limit)
-  pub amount : h .amount ≤ limit
-  pub deliverer : isKind (r .accounts) (h .account) 0 ≡ true
-  pub receiver : isKind (r .accounts) (g .account) 0 ≡ true
-  pub sameSecurity : h .security ≡ g .security
-  pub sameQuantity : h .quantity ≡ g .quantity
-  pub sameAmount : h .amount ≡ g .amount
-  pub receiverCsd : inBooks (r .accounts) (g .account) (h .counterpart) ≡ true
-  pub delivererCsd : inBooks (r .accounts) (h .account) (g .counterpart) ≡ true
+  pub deliverer : Participant (r .accounts) (h .account)
+  pub receiver : Participant (r .accounts) (g .account)
   pub two : h .account ≢ g .account
+  pub receiverCsd : AccountOf (r .accounts) (g .account) (h .counterpart)
+  pub delivererCsd : AccountOf (r .accounts) (h .account) (g .counterpart)
+  pub security : h .security < length (r .securities)
+  pub sameSecurity : h .security ≡ g .security
+  pub quantity : (1 ≤ h .quantity) × (h .quantity ≤ limit)
+  pub sameQuantity : h .quantity ≡ g .quantity
+  pub amount : h .amount ≤ limit
+  pub sameAmount : h .amount ≡ g .amount
 
--- "A debited participant or omnibus position"
-abbrev pub ParticipantOrOmnibus : List Account → ℕ → Type 0
-ParticipantOrOmnibus acc a = (isKind acc a 0 || isKind acc a 1) ≡ true
-
--- holdings, cash and limits allow
+-- "holdings, cash and limits allow"
 pub record Allowed (st : Store) (h g : Half) (steps : List Step) : Type 0 where
   pub holdings : (x : Step) → List·Memᴰ x steps → ParticipantOrOmnibus (rowsOf (st .directory) .accounts) (x .debited)
       → pos (h .quantity) ≤ℤ heldIn (st .positions) (h .security) (x .debited)
@@ -116,8 +123,8 @@ pub record Allowed (st : Store) (h g : Half) (steps : List Step) : Type 0 where
 
 -- everything that a booking needs
 pub record Bookable (st : Store) (h g : Half) (lent steps : List Step) : Type 0 where
-  pub fits : misfit (settle h g lent) st ≡ false
-  pub soundBooks : sound (st .directory) ≡ true
+  pub fits : Misfits st (settle h g lent) → ⊥
+  pub soundBooks : Sound (st .directory)
   pub agree : Agree (rowsOf (st .directory)) h g
   pub chain : ChainOfHalves st h g steps
   pub allowed : Allowed st h g steps
@@ -135,32 +142,52 @@ pub record Books (st : Store) (h g : Half) (lent : List Step) : Type 0 where
   pub onlyThen : (k : ℕ) → desk (settle h g lent) st .answer ≡ Booked k
       → (steps : List Step) × Bookable st h g lent steps × (k ≡ length steps) × BookedPair st h g lent steps
 
--- ---- Demand 2, the other calls: "accepted exactly when no number of document 01 applies, and then changes what document 01 says and no
--- more"
+-- ---- Demand 2, every call: "accepted exactly when no number applies, and then changes what the document says and no more"
 
--- the condition of the number n applies
-pub data Applies (n : ℕ) : List Condition → Type 0 where
-  here : {c : Condition} {cs : List Condition} → c .number ≡ n → c .holds ≡ true → Applies n (c ∷ cs)
-  there : {c : Condition} {cs : List Condition} → Applies n cs → Applies n (c ∷ cs)
+-- the number answered, 0 for none: 0 exactly when no number applies, else the first in the order of places that does
+pub record Decides (applies : ℕ → Type 0) (number : ℕ) : Type 0 where
+  pub whenClear : NoneApplies applies → number ≡ 0
+  pub onlyThen : number ≡ 0 → NoneApplies applies
+  pub whenFirst : (n : ℕ) → First applies n places → number ≡ n
+  pub isFirst : number ≢ 0 → First applies number places
 
--- no number of document 01 applies
-abbrev pub Clear : Call → Store → Type 0
-Clear c st = (n : ℕ) → Applies n (deskConditions c st) → ⊥
-
--- accepted exactly when no number applies; the number answered is the lowest that applies
+-- a call goes by its number alone
 pub record Ruled (c : Call) (st : Store) : Type 0 where
-  pub whenClear : Clear c st → desk c st .answer ≡ success c st
-  pub onlyThen : isAccepted (desk c st .answer) ≡ true → Clear c st
-  pub applies : (n : ℕ) → desk c st .answer ≡ Refused n → Applies n (deskConditions c st)
-  pub lowestOf : (n m : ℕ) → desk c st .answer ≡ Refused n → Applies m (deskConditions c st) → n ≤ m
+  pub number : Decides (Applies c st) (numberOf (desk c st .answer))
+  pub accepted : numberOf (desk c st .answer) ≡ 0 → desk c st .answer ≡ success c st
 
--- what document 01 says that an accepted entry, bring-in, take-out, pay-in or pay-out changes; a derivation changes nothing
+-- so does a total: the sum, or the refusal
+pub record Totalled : Type 0 where
+  pub units : (d : Directory) (p : List ℤ) (s : ℕ) → Decides (UnitsTotalRefused d p s) (unitsNumber (deskSecurityTotal d p s))
+  pub unitsSum : (d : Directory) (p : List ℤ) (s : ℕ) → unitsNumber (deskSecurityTotal d p s) ≡ 0
+      → deskSecurityTotal d p s ≡ SumUnits (participantSum (isKind (rowsOf d .accounts)) p s)
+  pub cents : (c : List ℤ) → Decides (CashTotalRefused c) (centsNumber (deskCashTotal c))
+  pub centsSum : (c : List ℤ) → centsNumber (deskCashTotal c) ≡ 0 → deskCashTotal c ≡ SumCents (cashSum c)
+
+-- no row in any table
+abbrev pub noRows : Rows
+noRows = record { csds = []; securities = []; accounts = []; pairs = []; links = [] }
+
+-- the rows with one more, numbered by entry
+abbrev pub withRow : Row → Rows → Rows
+withRow (csdRow x) r = record { csds = r .csds ++ (x ∷ []); securities = r .securities; accounts = r .accounts; pairs = r .pairs; links = r .links }
+withRow (securityRow x) r = record { csds = r .csds; securities = r .securities ++ (x ∷ []); accounts = r .accounts; pairs = r .pairs; links = r .links }
+withRow (accountRow x) r = record { csds = r .csds; securities = r .securities; accounts = r .accounts ++ (x ∷ []); pairs = r .pairs; links = r .links }
+withRow (pairRow x) r = record { csds = r .csds; securities = r .securities; accounts = r .accounts; pairs = r .pairs ++ (x ∷ []); links = r .links }
+withRow (linkRow x) r = record { csds = r .csds; securities = r .securities; accounts = r .accounts; pairs = r .pairs; links = r .links ++ (x ∷ []) }
+
+-- what document 01 says that an accepted call changes. An entry adds its row behind the rows in use, where the arrays are as long as their
+-- types say; a derivation changes nothing
 abbrev pub Changes : Call → Store → Store → Type 0
-Changes (enter x) st st′ = (st′ .directory ≡ addRow x (st .directory)) × (st′ .positions ≡ st .positions) × (st′ .cash ≡ st .cash)
+Changes (enter x) st st′ =
+    (st′ .directory ≡ addRow x (st .directory))
+    × (Sized (st .directory) → rowsOf (st′ .directory) ≡ withRow x (rowsOf (st .directory)))
+    × (st′ .positions ≡ st .positions)
+    × (st′ .cash ≡ st .cash)
 Changes (move w a s q) st st′ =
     (st′ .directory ≡ st .directory)
     × ((other : ℕ)
-    × (contra (ask (rowsOf (st .directory))) s (homeOf (rowsOf (st .directory) .accounts) a) ≡ some other)
+    × ContraOf (rowsOf (st .directory)) s (homeOf (rowsOf (st .directory) .accounts) a) other
     × MovedUnits (moveStep w (homeOf (rowsOf (st .directory) .accounts) a) a other ∷ []) s q (st .positions) (st′ .positions))
     × (st′ .cash ≡ st .cash)
 Changes (pay w a m) st st′ =
@@ -177,21 +204,10 @@ pub record Demand2 : Type 0 where
   pub books : (st : Store) (h g : Half) (lent : List Step) → Books st h g lent
   pub ruled : (c : Call) (st : Store) → Ruled c st
   pub changes : (c : Call) (st : Store) → isAccepted (desk c st .answer) ≡ true → Changes c st (desk c st .store)
+  pub totals : Totalled
 
 -- ---- Demand 3: "For every list of calls from an empty store, refused ones included, at its end". What positions and balances are
 -- compared with "goes by the calls' operands and answers alone".
-
--- no row in any table
-abbrev pub noRows : Rows
-noRows = record { csds = []; securities = []; accounts = []; pairs = []; links = [] }
-
--- the rows with one more, numbered by entry
-abbrev pub withRow : Row → Rows → Rows
-withRow (csdRow x) r = record { csds = r .csds ++ (x ∷ []); securities = r .securities; accounts = r .accounts; pairs = r .pairs; links = r .links }
-withRow (securityRow x) r = record { csds = r .csds; securities = r .securities ++ (x ∷ []); accounts = r .accounts; pairs = r .pairs; links = r .links }
-withRow (accountRow x) r = record { csds = r .csds; securities = r .securities; accounts = r .accounts ++ (x ∷ []); pairs = r .pairs; links = r .links }
-withRow (pairRow x) r = record { csds = r .csds; securities = r .securities; accounts = r .accounts; pairs = r .pairs ++ (x ∷ []); links = r .links }
-withRow (linkRow x) r = record { csds = r .csds; securities = r .securities; accounts = r .accounts; pairs = r .pairs; links = r .links ++ (x ∷ []) }
 
 -- the rows after an accepted call
 abbrev pub grown : Call → Rows → Rows

@@ -1,8 +1,9 @@
 -- The entries of document 01: the conditions that refuse a row after the rows before it, what an accepted entry changes, and soundness.
 use Prim.Native.Nat.{ℕ, zero, suc, _+_}
+use mathlib.Core.Path.{_≡_}
 use mathlib.Core.Bool.{Bool, not, _&&_, _||_, cond}
 use mathlib.Core.List.{List, [], _∷_}
-use lib.ListN.{set, replicate}
+use lib.ListN.{length, set, replicate}
 use lib.Dec.{ltb, leb, eqb}
 use Rattle.rules.specs.Types.{Csd, Security, Account, Pair, Link, CsdTable, SecurityTable, AccountTable, PairTable, LinkTable, Directory, Entered, Accepted, Refused}
 use Rattle.rules.specs.Tests.{eachAfter, isFull, Condition, _when_, lowest}
@@ -244,6 +245,14 @@ emptyDirectory =
       pairs = record { count = 0; rows = replicate pairLimit blankPair };
       links = record { count = 0; rows = replicate linkLimit blankLink };
     }
+
+-- the arrays have the lengths that their types say
+pub record Sized (d : Directory) : Type 0 where
+  pub csds : length (d .csds .rows) ≡ csdLimit
+  pub securities : length (d .securities .rows) ≡ securityLimit
+  pub accounts : length (d .accounts .rows) ≡ accountLimit
+  pub pairs : length (d .pairs .rows) ≡ pairLimit
+  pub links : length (d .links .rows) ≡ linkLimit
 
 -- "each row .. would be accepted after the rows before it"
 unfoldable pub csdsSound : List Csd → Bool

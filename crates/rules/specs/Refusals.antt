@@ -347,10 +347,10 @@ CoreRefused (settle h g lent) st = SettleRefused (rowsOf (st .directory)) (st .p
 CoreRefused (derive h g lent) st = DeriveRefused (rowsOf (st .directory)) h g
 
 -- 3 to 22: the number n applies to the call
-pub data Refuses (c : Call) (st : Store) : ℕ → Type 0 where
-  lists : Misfits st c → Refuses c st 3
-  directory : (Sound (st .directory) → ⊥) → Refuses c st 4
-  core : {n : ℕ} → CoreRefused c st n → Refuses c st n
+pub data Applies (c : Call) (st : Store) : ℕ → Type 0 where
+  lists : Misfits st c → Applies c st 3
+  directory : (Sound (st .directory) → ⊥) → Applies c st 4
+  core : {n : ℕ} → CoreRefused c st n → Applies c st n
 
 -- the total of a security
 pub data UnitsTotalRefused (d : Directory) (p : List ℤ) (s : ℕ) : ℕ → Type 0 where
