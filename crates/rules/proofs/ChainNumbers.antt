@@ -125,7 +125,7 @@ module _ (r : Rows) (F : Facts r) (s D R : ℕ) where
   why o (reversed ne n k e) = tt
   why o (twoIssuers i j k p q) = tt
   why o (twoExternals x y k p q) = tt
-  why o (refused n k e l h) = ends-apart (fourth-unjoined k) n (fromD .end) (fromR .end) refl refl e
+  why o (refused {n = n} k e) = ends-apart (fourth-unjoined k) n (fromD .end) (fromR .end) refl refl e
 
   pub route-apart : (n : ℕ) → route (ask r) s D R ≡ apart n → ChainRefused r s D R n
   route-apart n e = rw e at (why (route (ask r) s D R) (routed (ask r) s D R))

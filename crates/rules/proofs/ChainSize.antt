@@ -7,11 +7,11 @@ use Prim.Native.Nat.{ℕ, suc, _-_, _≤_}
 use native.Mathlib.Omega.{arith}
 use lib.Dec.{eqb}
 use lib.ListN.{length, length-append}
-use Rattle.rules.specs.Types.{Pair, Step, Join, Meeting, Issuers, Externals}
+use Rattle.rules.specs.Types.{Pair, Step, WalkEnd, Inside, Outside, NoLink, TooLong, Verdict, TwoIssuers, TwoExternals, Apart, Join, Meeting, Issuers, Externals}
 use Rattle.rules.specs.Directory.{Rows}
 use Rattle.rules.specs.Walks.{sideLimit, defaultHop, directedHop, defaultWalk, directedWalk}
 use Rattle.rules.specs.Lookups.{homeOf, Lookups, ask}
-use Rattle.rules.specs.Chain.{Route, sides, apart, upTo, Climb, climbed, unpaired, over, stepUp, climb, turned, topSteps, lastOf, Chain, chained, unchained, linkUp, along, route, chain, stepLimit}
+use Rattle.rules.specs.Chain.{Route, sides, apart, judged, upTo, Climb, climbed, unpaired, over, stepUp, climb, turned, topSteps, lastOf, Chain, chained, unchained, linkUp, along, route, chain, stepLimit}
 use Rattle.rules.proofs.Runs.{walk-short}
 use Rattle.rules.proofs.Routing.{Routed, oneCsd, sharing, directed, reversed, twoIssuers, twoExternals, refused, routed}
 use Rattle.rules.proofs.Turning.{turned-length}
@@ -30,6 +30,30 @@ up-to-short m (c ∷ p) = go (eqb c m) (up-to-short m p)
     go true below = omega arith
     go false below = omega arith
 
+-- two ends judged apart have a number from 14 to 17
+abbrev Apartness : Verdict → Type 0
+Apartness TwoIssuers = Unit {0}
+Apartness TwoExternals = Unit {0}
+Apartness (Apart n) = (14 ≤ n) × (n ≤ 17)
+
+judged-number : (e f : WalkEnd) → Apartness (judged e f)
+judged-number (Inside i) (Inside j) = tt
+judged-number (Inside i) (Outside y) = (omega arith, omega arith)
+judged-number (Inside i) NoLink = (omega arith, omega arith)
+judged-number (Inside i) TooLong = (omega arith, omega arith)
+judged-number (Outside x) (Inside j) = (omega arith, omega arith)
+judged-number (Outside x) (Outside y) = tt
+judged-number (Outside x) NoLink = (omega arith, omega arith)
+judged-number (Outside x) TooLong = (omega arith, omega arith)
+judged-number NoLink f = (omega arith, omega arith)
+judged-number TooLong (Inside j) = (omega arith, omega arith)
+judged-number TooLong (Outside y) = (omega arith, omega arith)
+judged-number TooLong NoLink = (omega arith, omega arith)
+judged-number TooLong TooLong = (omega arith, omega arith)
+
+judged-apart : (e f : WalkEnd) (n : ℕ) → judged e f ≡ Apart n → (14 ≤ n) × (n ≤ 17)
+judged-apart e f n g = rw g at (judged-number e f)
+
 module _ (K : Lookups) (s : ℕ) where
   by-default : (c : ℕ) → length (defaultWalk K s c .path) ≤ sideLimit
   by-default c = walk-short (defaultHop K s) sideLimit c
@@ -47,7 +71,7 @@ module _ (K : Lookups) (s : ℕ) where
   few D R o (reversed ne n k e) = (omega arith, by-directed D R)
   few D R o (twoIssuers i j k p q) = (by-default D, by-default R)
   few D R o (twoExternals x y k p q) = (by-default D, by-default R)
-  few D R o (refused n k e l h) = (l, h)
+  few D R o (refused k e) = judged-apart (defaultWalk K s D .end) (defaultWalk K s R .end) _ e
 
 -- a side has one step fewer than CSDs
 abbrev Climbing : List ℕ → Climb → Type 0
