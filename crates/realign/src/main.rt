@@ -1,9 +1,28 @@
 // Reads commands from standard input, and writes their transcript to standard output. One byte more than the limit is read, so that a longer input
-// is told from one that fits.
+// is told from one that fits. What could not be read is not run, and what failed is said in a line on standard error.
+use input::Input;
+use input::read_input;
+use output::write_whole;
+
+mod transfers; // transfers.rt: what one call of the C library did
+mod input; // input.rt: standard input, read to its end
+mod output; // output.rt: bytes written to a descriptor
+
 fn main() {
     let mut input = [0u8; stream::INPUT + 1];
     let mut output = [0u8; stream::ROOM];
-    let n = io::read_full(0, &mut input);
+    let Input::Whole(n) = read_input(&mut input) else {
+        write_whole(
+            libc::STDERR_FILENO,
+            b"realign: standard input could not be read\n",
+        );
+        return;
+    };
     let end = stream::run(&input[..n], &mut output);
-    io::write_all(1, &output[..end]);
+    if !write_whole(libc::STDOUT_FILENO, &output[..end]) {
+        write_whole(
+            libc::STDERR_FILENO,
+            b"realign: standard output could not be written\n",
+        );
+    }
 }
