@@ -61,10 +61,11 @@ room (negsuc n) error done most h m = go (interrupted error)
     go false = tt
 
 -- a call on the part behind the first `done` bytes moves no more than the part has
-pub rooms : (r : Transfer) (got error : ℤ) (done : ℕ) (bytes : List ℕ) → r ≡ transferOf got error → done ≤ length bytes → Moved (length (take (length bytes - done) (drop done bytes))) got → Room r done (length bytes)
-rooms r got error done bytes e h m =
-    let part : length (take (length bytes - done) (drop done bytes)) ≡ length bytes - done = simp (length-take, length-drop) (omega arith) in
-    rw e (room got error done (length bytes) h (rw part at m))
+module _ (got error : ℤ) (done : ℕ) (bytes : List ℕ) (h : done ≤ length bytes) (m : Moved (length (take (length bytes - done) (drop done bytes))) got) where
+  pub rooms : (r : Transfer) → r ≡ transferOf got error → Room r done (length bytes)
+  rooms r e =
+      let part : length (take (length bytes - done) (drop done bytes)) ≡ length bytes - done = simp (length-take, length-drop) (omega arith) in
+      rw e (room got error done (length bytes) h (rw part at m))
 
 -- what is known of a count, once the call is known to have moved bytes
 pub moved : (r : Transfer) (n done most : ℕ) → r ≡ Bytes n → Room r done most → (0 < n) × (done + n ≤ most)

@@ -26,10 +26,14 @@ returns : tie.Need-returns
 returns c = search needs
 
 array-share-prefix-input : tie.Need-array-share-prefix-input
-array-share-prefix-input c = let t = c .before .before .before .before .read-input in whole (t .result) (c .before .n .given .0 .0) _ (c .before .n .given .1) (t .ensures)
+array-share-prefix-input c =
+    let t = c .before .before .before .before .read-input in
+    whole (t .result) (c .before .n .given .0 .0) _ (c .before .n .given .1) (t .ensures)
 
 slice-aggregate-run : tie.Need-slice-aggregate-run
-slice-aggregate-run c = let t = c .before .before .before .before .before .read-input in lent (t .result) (c .before .before .n .given .0 .0) (t .last .0) (c .before .before .n .given .1) (t .ensures)
+slice-aggregate-run c =
+    let t = c .before .before .before .before .before .read-input in
+    lent (t .result) (c .before .before .n .given .0 .0) (t .last .0) (c .before .before .n .given .1) (t .ensures)
 
 slice-aggregate-run-2 : tie.Need-slice-aggregate-run-2
 slice-aggregate-run-2 c = search needs

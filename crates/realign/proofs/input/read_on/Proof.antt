@@ -39,7 +39,7 @@ returns c =
     let e = c .before .errno in
     let f : SFits w32 (e .result) = sfits-of (e .ok) in (
       take-put (s .args .done) (length (s .args .buffer .now) - s .args .done) (s .args .buffer .now) (m .last .1 .0) (s .pre),
-      rooms _ (m .result) (e .result) (s .args .done) (s .args .buffer .now) (simp toZ-ofZ at (c .transfer-of .ensures)) (s .pre) (m .ensures),
+      rooms (m .result) (e .result) (s .args .done) (s .args .buffer .now) (s .pre) (m .ensures) _ (simp toZ-ofZ at (c .transfer-of .ensures)),
     )
 
 pub read-on-spec : {M : Type 1} → statement M

@@ -32,7 +32,7 @@ returns c =
     let k : SFits w64 (m .result) = sfits-of (m .ok) in
     let e = c .before .errno in
     let f : SFits w32 (e .result) = sfits-of (e .ok) in
-    rooms _ (m .result) (e .result) (s .args .done) (s .args .bytes .now) (simp toZ-ofZ at (c .transfer-of .ensures)) (s .pre) (m .ensures)
+    rooms (m .result) (e .result) (s .args .done) (s .args .bytes .now) (s .pre) (m .ensures) _ (simp toZ-ofZ at (c .transfer-of .ensures))
 
 pub write-on-spec : {M : Type 1} → statement M
 write-on-spec =
