@@ -1,0 +1,341 @@
+// Derivation and settlement in a lent list of steps that is longer than any chain and full of other numbers. After each call the steps behind the K that
+// it writes, or all of them where it refuses, are held against what they were. The list is filled anew for each call.
+use desk::empty;
+use rules::ACCOUNTS;
+use rules::Account;
+use rules::Answer;
+use rules::Directory;
+use rules::Half;
+use rules::NO_ACCOUNT;
+use rules::NO_CSD;
+use rules::POSITIONS;
+use rules::STEPS;
+use rules::Security;
+use rules::Step;
+ghost use mathlib.Core.Path.{_≡_};
+ghost use Prim.Native.Nat.{_≤_};
+ghost use lib.ListN.{take, drop};
+ghost use Rattle.rules.specs.Outcomes.{derivationOn, settlementOn};
+ghost use Rattle.lent_steps.specs.Lent.{size, left, backFrom};
+
+// Steps in the list, of which a call is lent the first ones or all.
+const LIST: usize = 20;
+
+// What a call answered, and the list after it.
+struct Back {
+    answer: Answer,
+    steps: [Step; LIST],
+}
+
+// ---- the calls
+
+fn handed_back(answer: Answer, steps: [Step; LIST]) -> Back
+    ensures { λ r. ⌜ r ≡ left answer steps ⌝ }
+{
+    Back { answer, steps }
+}
+
+// A derivation that is lent the first `lent` steps of the list.
+fn derive(
+    directory: Directory,
+    list: [Step; LIST],
+    lent: usize,
+    delivering: Half,
+    receiving: Half,
+) -> Back
+    requires { ⌜ lent ≤ size ⌝ }
+    ensures { λ r. ⌜ r ≡ backFrom (derivationOn directory (take lent list) delivering receiving) (drop lent list) ⌝ }
+{
+    let mut steps = list;
+    let answer = desk::derive(directory, &mut steps[..lent], delivering, receiving);
+    handed_back(answer, steps)
+}
+
+// A settlement, likewise.
+fn settle(
+    directory: Directory,
+    positions: &mut [i64],
+    cash: &mut [i64],
+    list: [Step; LIST],
+    lent: usize,
+    delivering: Half,
+    receiving: Half,
+) -> Back
+    requires { ⌜ lent ≤ size ⌝ }
+    ensures { λ r. ⌜ (r ≡ backFrom (settlementOn directory (now (positions .entry)) (now (cash .entry)) (take lent list) delivering receiving) (drop lent list))
+        × (now (positions .exit)
+        ≡ settlementOn directory (now (positions .entry)) (now (cash .entry)) (take lent list) delivering receiving .store .positions)
+        × (now (cash .exit) ≡ settlementOn directory (now (positions .entry)) (now (cash .entry)) (take lent list) delivering receiving .store .cash) ⌝ }
+{
+    let mut steps = list;
+    let answer = desk::settle(
+        directory,
+        positions,
+        cash,
+        &mut steps[..lent],
+        delivering,
+        receiving,
+    );
+    handed_back(answer, steps)
+}
+
+// ---- the list
+
+// What stands at i before a call: a step of no chain.
+fn other(i: usize) -> Step {
+    let n = (i % LIST) as u16;
+    Step {
+        csd: 77,
+        debited: 7_000 + n,
+        credited: 8_000 + n,
+    }
+}
+
+fn others() -> [Step; LIST] {
+    let mut steps = [other(0); LIST];
+    let mut i: usize = 0;
+    while i < LIST {
+        steps[i] = other(i);
+        i += 1;
+    }
+    steps
+}
+
+fn same(a: Step, b: Step) -> bool {
+    (a.csd == b.csd) & (a.debited == b.debited) & (a.credited == b.credited)
+}
+
+// How many of the steps behind the first `count` are what they were.
+fn untouched(back: Back, count: usize) -> usize {
+    let mut n: usize = 0;
+    let mut i: usize = 0;
+    while i < LIST {
+        if (count <= i) & same(back.steps[i], other(i)) {
+            n += 1;
+        }
+        i += 1;
+    }
+    n
+}
+
+// ---- what is printed
+
+fn put(text: &[u8]) {
+    io::write_all(libc::STDOUT_FILENO, text);
+}
+
+// A number after a word.
+fn put_number(word: &[u8], n: u64) {
+    put(word);
+    io::print_decimal(libc::STDOUT_FILENO, n);
+}
+
+fn put_steps(back: Back, count: usize) {
+    let mut i: usize = 0;
+    while i < LIST {
+        if count <= i {
+            return;
+        }
+        let step = back.steps[i];
+        put_number(b"- ", step.csd as u64);
+        put_number(b" ", step.debited as u64);
+        put_number(b" ", step.credited as u64);
+        put(b"\n");
+        i += 1;
+    }
+}
+
+// The answer, and K.
+fn put_answer(answer: Answer) -> usize {
+    match answer {
+        Answer::Accepted => {
+            put(b"ok");
+            0
+        }
+        Answer::Booked(count) => {
+            put_number(b"booked ", count as u64);
+            count
+        }
+        Answer::Chained(count) => {
+            put_number(b"chain ", count as u64);
+            count
+        }
+        Answer::Refused(number) => {
+            put_number(b"no ", number as u64);
+            0
+        }
+    }
+}
+
+// The answer, how many of the other steps are untouched, and the K steps.
+fn put_back(back: Back) {
+    let answer = back.answer;
+    let count = put_answer(answer);
+    put_number(b", ", untouched(back, count) as u64);
+    if count < LIST {
+        put_number(b" of ", (LIST - count) as u64);
+    }
+    put(b" other steps untouched\n");
+    put_steps(back, count);
+}
+
+// ---- the directory
+
+fn entered(entered: rules::Entered) -> Directory {
+    entered.directory
+}
+
+// A CSD in T2S by one byte of its BIC.
+fn with_csd(directory: Directory, byte: u8) -> Directory {
+    let mut bic = *b"AAAAXX00XXX";
+    bic[7] = byte;
+    entered(desk::enter_csd(directory, rules::Csd { external: 0, bic }))
+}
+
+fn with_account(directory: Directory, csd: u8, kind: u8) -> Directory {
+    entered(desk::enter_account(directory, Account { csd, kind }))
+}
+
+// An investor CSD with its technical issuer: their pair, and a default link.
+fn with_pair(
+    directory: Directory,
+    investor: u8,
+    technical: u8,
+    mirror: u16,
+    omnibus: u16,
+) -> Directory {
+    let pair = rules::Pair {
+        investor,
+        technical,
+        mirror,
+        omnibus,
+    };
+    let link = rules::Link {
+        security: 0,
+        kind: 1,
+        csd: investor,
+        technical,
+        flag: 1,
+        account: NO_ACCOUNT,
+    };
+    entered(desk::enter_link(entered(desk::enter_pair(directory, pair)), link))
+}
+
+fn with_issuer(directory: Directory, csd: u8, account: u16) -> Directory {
+    let link = rules::Link {
+        security: 0,
+        kind: 0,
+        csd,
+        technical: NO_CSD,
+        flag: 1,
+        account,
+    };
+    entered(desk::enter_link(directory, link))
+}
+
+// The worked example: CSD 0 has the participant 0 and the mirror 1; CSD 1 has the omnibus 2, the issuance account 3 and the participant 4.
+fn worked() -> Directory {
+    let csds = with_csd(with_csd(empty(), b'0'), b'1');
+    let isin = *b"XS0000000009";
+    let listed = entered(desk::enter_security(csds, Security { isin }));
+    let first = with_account(with_account(listed, 0, 0), 0, 2);
+    let second = with_account(with_account(with_account(first, 1, 1), 1, 4), 1, 0);
+    with_pair(with_issuer(second, 1, 3), 0, 1, 1, 2)
+}
+
+// CSD 1 has another participant, 5; CSD 2, with the participant 6 and the mirror 7, is an investor in it by the omnibus 8; CSD 3, with the participant 9,
+// has no link.
+fn wider() -> Directory {
+    let csds = with_csd(with_csd(with_account(worked(), 1, 0), b'2'), b'3');
+    let third = with_account(with_account(with_account(csds, 2, 0), 2, 2), 1, 1);
+    with_pair(with_account(third, 3, 0), 2, 1, 7, 8)
+}
+
+// ---- the calls that are shown
+
+// The CSD of a participant.
+fn home(account: u16) -> u8 {
+    match account {
+        0 => 0,
+        4 | 5 => 1,
+        6 => 2,
+        _ => 3,
+    }
+}
+
+fn half(account: u16, counterpart: u16, quantity: u64) -> Half {
+    Half {
+        account,
+        counterpart: home(counterpart),
+        security: 0,
+        quantity,
+        amount: 0,
+    }
+}
+
+// The quantity and account of each half, and how many steps are lent.
+fn put_call(word: &[u8], lent: usize, delivering: Half, receiving: Half) {
+    put_number(word, delivering.quantity);
+    put_number(b" from ", delivering.account as u64);
+    put_number(b", ", receiving.quantity);
+    put_number(b" to ", receiving.account as u64);
+    put_number(b", lent ", lent as u64);
+    put(b": ");
+}
+
+fn show_derive(directory: Directory, lent: usize, delivering: Half, receiving: Half)
+    requires { ⌜ lent ≤ size ⌝ }
+{
+    put_call(b"derive ", lent, delivering, receiving);
+    put_back(derive(directory, others(), lent, delivering, receiving));
+}
+
+fn show_settle(
+    directory: Directory,
+    positions: &mut [i64],
+    cash: &mut [i64],
+    lent: usize,
+    quantity: u64,
+)
+    requires { ⌜ lent ≤ size ⌝ }
+{
+    let delivering = half(4, 0, quantity);
+    let receiving = half(0, 4, quantity);
+    put_call(b"settle ", lent, delivering, receiving);
+    put_back(settle(
+        directory,
+        positions,
+        cash,
+        others(),
+        lent,
+        delivering,
+        receiving,
+    ));
+}
+
+fn derivations(directory: Directory) {
+    show_derive(directory, LIST, half(4, 5, 40), half(5, 4, 40));
+    show_derive(directory, LIST, half(4, 0, 40), half(0, 4, 40));
+    show_derive(directory, LIST, half(6, 0, 40), half(0, 6, 40));
+    show_derive(directory, LIST, half(4, 0, 40), half(0, 4, 41));
+    show_derive(directory, LIST, half(4, 4, 40), half(4, 4, 40));
+    show_derive(directory, LIST, half(9, 0, 40), half(0, 9, 40));
+    show_derive(directory, STEPS, half(6, 0, 40), half(0, 6, 40));
+    show_derive(directory, STEPS - 1, half(6, 0, 40), half(0, 6, 40));
+    show_derive(directory, 3, half(6, 0, 40), half(0, 6, 40));
+}
+
+fn settlements(directory: Directory, positions: &mut [i64], cash: &mut [i64]) {
+    desk::bring_in(directory, positions, 4, 0, 100);
+    show_settle(directory, positions, cash, LIST, 40);
+    show_settle(directory, positions, cash, LIST, 61);
+    show_settle(directory, positions, cash, 3, 40);
+}
+
+fn main() {
+    let mut positions = [0i64; POSITIONS];
+    let mut cash = [0i64; ACCOUNTS];
+    let directory = wider();
+    derivations(directory);
+    settlements(directory, &mut positions, &mut cash);
+}
