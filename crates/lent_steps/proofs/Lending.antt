@@ -1,4 +1,4 @@
--- A local array of steps: its first ones are cut off to be lent as a slice, and put together again with those that stayed behind. Assumes nothing.
+-- A local array of steps: its first ones are cut off to be lent as a slice, and put together again with those that stayed behind.
 use mathlib.Core.Path.{_≡_, refl, sym, _∙_}
 use Prim.Native.Nat.{ℕ, _≤_}
 use mathlib.Core.List.{List, [], _∷_, _++_}
