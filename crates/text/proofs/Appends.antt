@@ -1,12 +1,12 @@
 -- Laws of appended text: nothing, one byte, one text after another, and what holds where the buffer has room.
 use mathlib.Core.Path.{_≡_, refl, sym, _∙_, ap}
-use Prim.Native.Nat.{ℕ, zero, suc, _+_, _≤_, _<_, min}
+use Prim.Native.Nat.{ℕ, zero, suc, _+_, _-_, _≤_, _<_, min}
 use native.Mathlib.Numerals.{add-one}
 use native.Mathlib.Decide.{decLe}
 use native.Mathlib.Omega.{arith}
 use mathlib.Core.List.{List, [], _∷_, _++_, append-assoc, append-nil}
-use lib.ListN.{length, take, set, getD, length-append, length-take, length-set}
-use lib.Seq.{take-suc, take-suc-set, take-all, take-length, take-append-seam, length-take-le}
+use lib.ListN.{length, take, drop, set, getD, length-append, length-take, length-set}
+use lib.Seq.{take-suc, take-suc-set, take-all, take-length, take-append-seam, length-take-le, drop-drop, drop-set-lt}
 use Rattle.text.specs.Appended.{Appended, shown}
 
 -- ---- the buffer's end
@@ -27,7 +27,7 @@ full out at text h = ap (λ (l : List ℕ). take (length out) (l ++ text)) (take
 
 pub past-end : (out : List ℕ) (at : ℕ) (text : List ℕ) → length out ≤ at → Appended out at out (length out) text
 past-end out at text h =
-    record { ends = sym (ap length (full out at text h)); front = take-length out ∙ sym (full out at text h); same = refl }
+    record { ends = sym (ap length (full out at text h)); front = take-length out ∙ sym (full out at text h); rest = refl; same = refl }
 
 -- ---- where there is room
 
@@ -35,6 +35,7 @@ past-end out at text h =
 pub record Fitted (out : List ℕ) (at : ℕ) (out′ : List ℕ) (end : ℕ) (text : List ℕ) : Type 0 where
   pub ends : end ≡ at + length text
   pub front : take end out′ ≡ take at out ++ text
+  pub rest : drop end out′ ≡ drop end out
   pub same : length out′ ≡ length out
 
 ends-there : (out : List ℕ) (at : ℕ) (text : List ℕ) → at + length text ≤ length out → length (shown out at text) ≡ at + length text
@@ -43,17 +44,17 @@ ends-there out at text h =
 
 module _ {out out′ text : List ℕ} {at end : ℕ} where
   pub fits : Appended out at out′ end text → at + length text ≤ length out → Fitted out at out′ end text
-  fits a h = record { ends = a .ends ∙ ends-there out at text h; front = a .front ∙ whole out at text h; same = a .same }
+  fits a h = record { ends = a .ends ∙ ends-there out at text h; front = a .front ∙ whole out at text h; rest = a .rest; same = a .same }
 
   fitted : Fitted out at out′ end text → at + length text ≤ length out → Appended out at out′ end text
-  fitted a h = record { ends = a .ends ∙ sym (ends-there out at text h); front = a .front ∙ sym (whole out at text h); same = a .same }
+  fitted a h = record { ends = a .ends ∙ sym (ends-there out at text h); front = a .front ∙ sym (whole out at text h); rest = a .rest; same = a .same }
 
 -- nothing appended; a place past the buffer's end is the buffer's end
 pub no-bytes : (out : List ℕ) (at end : ℕ) → end ≡ min at (length out) → Appended out at out end []
 no-bytes out at end e = go (decLe at (length out))
   where
     go : Dec (at ≤ length out) → Appended out at out end []
-    go (yes h) = let p : end ≡ at = omega arith in rw p (fitted (record { ends = omega arith; front = sym (append-nil (take at out)); same = refl }) (omega arith))
+    go (yes h) = let p : end ≡ at = omega arith in rw p (fitted (record { ends = omega arith; front = sym (append-nil (take at out)); rest = refl; same = refl }) (omega arith))
     go (no h) = let p : end ≡ length out = omega arith in rw p (past-end out at [] (omega arith))
 
 pub one-byte : (out : List ℕ) (at b : ℕ) → at < length out → Appended out at (set out at b) (at + 1) (b ∷ [])
@@ -61,6 +62,7 @@ one-byte out at b h =
     fitted (record {
       ends = refl;
       front = ap (λ (m : ℕ). take m (set out at b)) (add-one at) ∙ take-suc-set out at b h;
+      rest = drop-set-lt (at + 1) out at b (omega arith);
       same = length-set out at b;
     }) (omega arith)
 
@@ -72,11 +74,29 @@ pub followed : {out out′ text : List ℕ} {at end : ℕ} (rest : List ℕ) →
 followed {out} {out′} {text} {at} {end} rest a =
     rw (a .front) (cut-cut (length out) (take at out ++ text) rest ∙ ap (take (length out)) (append-assoc (take at out) text rest))
 
+-- what is as it was from a place on is so from every later place on
+pub further : (x y : List ℕ) (mid end : ℕ) → mid ≤ end → drop mid x ≡ drop mid y → drop end x ≡ drop end y
+further x y mid end h e =
+    let p : end ≡ mid + (end - mid) = omega arith in
+    rw p (sym (drop-drop (end - mid) mid x) ∙ (ap (drop (end - mid)) e ∙ drop-drop (end - mid) mid y))
+
+-- a text that ends inside the buffer ends no earlier with more behind it
+no-earlier : (out : List ℕ) (at : ℕ) (text : List ℕ) → at ≤ length out → at ≤ length (shown out at text)
+no-earlier out at text h =
+    omega (arith, length-take (length out) (take at out ++ text), length-append (take at out) text, length-take at out)
+
 pub then : {out out₁ out₂ : List ℕ} {at mid end : ℕ} {x y : List ℕ} → Appended out at out₁ mid x → Appended out₁ mid out₂ end y
     → Appended out at out₂ end (x ++ y)
 then {out} {out₁} {out₂} {at} {mid} {end} {x} {y} a b =
     let e : shown out₁ mid y ≡ shown out at (x ++ y) = rw (a .same) (followed y a) in
-    record { ends = b .ends ∙ ap length e; front = b .front ∙ e; same = b .same ∙ a .same }
+    let inside : mid ≤ length out₁ = omega (arith, a .ends, length-take (length out) (take at out ++ x), a .same) in
+    let later : mid ≤ end = omega (arith, b .ends, no-earlier out₁ mid y inside) in
+    record {
+      ends = b .ends ∙ ap length e;
+      front = b .front ∙ e;
+      rest = b .rest ∙ further out₁ out mid end later (a .rest);
+      same = b .same ∙ a .same;
+    }
 
 -- the same text by another name
 pub named : {out out′ : List ℕ} {at end : ℕ} {x y : List ℕ} → x ≡ y → Appended out at out′ end x → Appended out at out′ end y
