@@ -218,10 +218,18 @@ transcript s = cond (ltb inputLimit (length s)) (bytes "too long\n") (linesFrom 
 abbrev pub room : ℕ
 room = 400_000
 
--- The text stands at the front of the output, which ends where the answer r says; an output that is too short is as it was.
+-- the output after a run: the text at its front, the rest untouched; an output of less than `room` bytes stays as it was
+unfoldable pub printed : List ℕ → List ℕ → List ℕ
+printed text out = cond (ltb (length out) room) out (text ++ drop (length text) out)
+
+-- what a run answers: the text's length, 0 for an output that is too short
+unfoldable pub printedLength : List ℕ → List ℕ → ℕ
+printedLength text out = cond (ltb (length out) room) 0 (length text)
+
+-- What a run of the program promises of its answer r and of the output that it was lent.
 pub record Printed (text before after : List ℕ) (r : ℕ) : Type 0 where
-  pub prints : room ≤ length before → (r ≡ length text) × (take r after ≡ text)
-  pub refuses : length before < room → (r ≡ 0) × (after ≡ before)
-  -- the front is a part of the output that can be lent
+  pub answers : r ≡ printedLength text before
+  pub leaves : after ≡ printed text before
+  -- the text is a part of the output that can be lent on
   pub inside : r ≤ length after
   pub whole : r ≡ length (take r after)

@@ -7,7 +7,7 @@ use native.Mathlib.Numerals.{add-one}
 use native.Mathlib.Omega.{arith}
 use mathlib.Core.List.{List, [], _∷_, _++_, append-assoc}
 use lib.IntN.{ℤ}
-use lib.ListN.{length, take, drop, replicate, length-append, length-take, length-replicate}
+use lib.ListN.{length, take, drop, replicate, length-append, length-take, length-replicate, take-append-drop}
 use lib.Seq.{length-take-le}
 use borrow.Author.Tests.{lt-ltb, le-ltb}
 use Rattle.rules.specs.declared.Account.{Account}
@@ -20,7 +20,7 @@ use Rattle.rules.proofs.Facts.{Facts}
 use Rattle.rules.proofs.Soundness.{sound-gives}
 use Rattle.rules.proofs.Running.{Ready, empty-ready}
 use Rattle.text.specs.Appended.{Appended}
-use Rattle.text.proofs.Appends.{Fitted, fits, named}
+use Rattle.text.proofs.Appends.{Fitted, fits, further, named}
 use Rattle.text.proofs.Lengths.{short-total, short-cash}
 use Rattle.index.specs.Index.{indexSize}
 use Rattle.entries.specs.Names.{namesSize}
@@ -30,7 +30,7 @@ use Rattle.stream.specs.declared.turns.Turn.{Turn}
 use Rattle.stream.specs.Obeyed.{Held, held, Holds}
 use Rattle.stream.specs.Turns.{Told, told, Takes}
 use Rattle.stream.specs.Ending.{endingIn}
-use Rattle.rules.specs.Stream.{room, Printed}
+use Rattle.rules.specs.Stream.{room, printed, printedLength, Printed}
 use Rattle.stream.proofs.Keeping.{Bounded, empty-bounded}
 use Rattle.stream.proofs.Totals.{ending-is, totalled}
 use Rattle.stream.proofs.Turned.{Turned, turned, lines-end}
@@ -61,6 +61,8 @@ pub record Going (s before out : List ℕ) (st : Store) (at number end : ℕ) : 
   pub roomy : at < length s → end ≤ 6 * at
   pub fits : end ≤ 6 * at + 16
   pub same : length out ≡ length before
+  -- the bytes behind the text are as they were
+  pub rest : drop end out ≡ drop end before
   pub ready : Ready st
   pub bounded : Bounded st
   pub whole : take end out ++ linesFrom (length s - number) (number + 1) (drop at s) st ≡ linesFrom (length s) 1 s emptyStore
@@ -73,6 +75,7 @@ going-start s out =
       roomy = λ h. omega arith;
       fits = omega arith;
       same = refl;
+      rest = refl;
       ready = empty-ready;
       bounded = empty-bounded;
       whole = let z : length s - 0 ≡ length s = omega arith in rw z;
@@ -102,40 +105,50 @@ module _ (s before out : List ℕ) (st : Store) (at number end : ℕ) (g : Going
           roomy = λ l. omega (arith, g .roomy h, text .ends, m .short (omega arith));
           fits = omega (arith, g .roomy h, text .ends, m .fits);
           same = text .same ∙ g .same;
+          rest = text .rest ∙ further out before end (t .end) (omega (arith, text .ends)) (g .rest);
           ready = m .ready;
           bounded = m .bounded;
           whole = rw (on, text .front, append-assoc, add-one (number + 1), ← m .lines (length s - (number + 1)), ← fuel) (g .whole);
         }
 
   -- what stands there once the end is told
-  all-told : (after : List ℕ) (r : ℕ) → length s ≤ at → Appended out end after r (ending st)
-      → (r ≡ length (linesFrom (length s) 1 s emptyStore)) × (take r after ≡ linesFrom (length s) 1 s emptyStore)
+  all-told : (after : List ℕ) (r : ℕ) → length s ≤ at → Appended out end after r (ending st) → Fitted before 0 after r (linesFrom (length s) 1 s emptyStore)
   all-told after r h a =
       let text : Fitted out end after r (ending st) = fits a (omega (arith, g .fits, g .inside, g .same, ending-short st (g .ready))) in
       let w : take end out ++ ending st ≡ linesFrom (length s) 1 s emptyStore = rw (lines-end (length s - number) (number + 1) s at st h) at (g .whole) in
-      (omega (arith, text .ends, ap length w, length-append (take end out) (ending st), length-take-le end out ends-inside), text .front ∙ w)
+      record {
+        ends = omega (arith, text .ends, ap length w, length-append (take end out) (ending st), length-take-le end out ends-inside);
+        front = text .front ∙ w;
+        rest = text .rest ∙ further out before end r (omega (arith, text .ends)) (g .rest);
+        same = text .same ∙ g .same;
+      }
 
 -- ---- what a run prints
 
 module _ (s before after : List ℕ) (r : ℕ) where
-  printed : (text : List ℕ) → room ≤ length before → (r ≡ length text) × (take r after ≡ text) → Printed text before after r
-  printed text m p =
-      let f : r ≡ length (take r after) = p .0 ∙ sym (ap length (p .1)) in
-      record { prints = λ k. p; refuses = λ k. absurd (omega arith); inside = omega (arith, length-take r after); whole = f }
+  prints : (text : List ℕ) → room ≤ length before → Fitted before 0 after r text → Printed text before after r
+  unfolding printed printedLength
+  prints text m f =
+      let long : r ≡ length text = omega (arith, f .ends) in
+      let behind : drop r after ≡ drop (length text) before = f .rest ∙ ap (λ (n : ℕ). drop n before) long in
+      let all : after ≡ text ++ drop (length text) before = sym (take-append-drop r after) ∙ rw (f .front, behind) in
+      let large = le-ltb (length before) room m in
+      let whole : r ≡ length (take r after) = long ∙ sym (ap length (f .front)) in
+      record { answers = rw large long; leaves = rw large all; inside = omega (arith, length-take r after); whole = whole }
 
-  prints-lines : length s ≤ inputLimit → room ≤ length before
-      → (r ≡ length (linesFrom (length s) 1 s emptyStore)) × (take r after ≡ linesFrom (length s) 1 s emptyStore) → Printed (transcript s) before after r
+  prints-lines : length s ≤ inputLimit → room ≤ length before → Fitted before 0 after r (linesFrom (length s) 1 s emptyStore) → Printed (transcript s) before after r
   unfolding transcript
-  prints-lines h m p = rw (le-ltb inputLimit (length s) h) (printed (linesFrom (length s) 1 s emptyStore) m p)
+  prints-lines h m f = rw (le-ltb inputLimit (length s) h) (prints (linesFrom (length s) 1 s emptyStore) m f)
 
   pub prints-long : inputLimit < length s → room ≤ length before → Appended before 0 after r (bytes "too long\n") → Printed (transcript s) before after r
   unfolding transcript
-  prints-long h m a =
-      let text : Fitted before 0 after r (bytes "too long\n") = fits a (omega arith) in
-      rw (lt-ltb inputLimit (length s) h) (printed (bytes "too long\n") m (text .ends, text .front))
+  prints-long h m a = rw (lt-ltb inputLimit (length s) h) (prints (bytes "too long\n") m (fits a (omega arith)))
 
 pub refuses-short : (s before : List ℕ) → length before < room → Printed (transcript s) before before 0
-refuses-short s before h = record { prints = λ k. absurd (omega arith); refuses = λ k. (refl, refl); inside = omega arith; whole = refl }
+unfolding printed printedLength
+refuses-short s before h =
+    let short = lt-ltb (length before) room h in
+    record { answers = rw short; leaves = rw short; inside = omega arith; whole = refl }
 
 -- ---- what the code holds in the loop
 
