@@ -136,7 +136,8 @@ module _ (s before after : List ℕ) (r : ℕ) where
       let whole : r ≡ length (take r after) = long ∙ sym (ap length (f .front)) in
       record { answers = rw large long; leaves = rw large all; inside = omega (arith, length-take r after); whole = whole }
 
-  prints-lines : length s ≤ inputLimit → room ≤ length before → Fitted before 0 after r (linesFrom (length s) 1 s emptyStore) → Printed (transcript s) before after r
+  prints-lines : length s ≤ inputLimit → room ≤ length before → Fitted before 0 after r (linesFrom (length s) 1 s emptyStore)
+      → Printed (transcript s) before after r
   unfolding transcript
   prints-lines h m f = rw (le-ltb inputLimit (length s) h) (prints (linesFrom (length s) 1 s emptyStore) m f)
 

@@ -54,7 +54,9 @@ pub no-bytes : (out : List ℕ) (at end : ℕ) → end ≡ min at (length out) �
 no-bytes out at end e = go (decLe at (length out))
   where
     go : Dec (at ≤ length out) → Appended out at out end []
-    go (yes h) = let p : end ≡ at = omega arith in rw p (fitted (record { ends = omega arith; front = sym (append-nil (take at out)); rest = refl; same = refl }) (omega arith))
+    go (yes h) =
+        let p : end ≡ at = omega arith in
+        rw p (fitted (record { ends = omega arith; front = sym (append-nil (take at out)); rest = refl; same = refl }) (omega arith))
     go (no h) = let p : end ≡ length out = omega arith in rw p (past-end out at [] (omega arith))
 
 pub one-byte : (out : List ℕ) (at b : ℕ) → at < length out → Appended out at (set out at b) (at + 1) (b ∷ [])

@@ -54,19 +54,19 @@ slice-aggregate-take-turn-3 c = sym (c .before .before .before .before .before .
 take-turn-requires : tie.Need-take-turn-requires Inv-loop μ-loop
 take-turn-requires c κs = search needs
 
-loop-less : tie.Need-loop-less Inv-loop μ-loop
-loop-less c =
-    let t = c .before .before .before .before .before .take-turn in
-    let p = c .before .before .before .before .before .before .before .before .before .before .before .before in
-    let r = p .before .loop .inv in
-    less-left _ _ _ _ _ _ _ r (p .before .before .if2 .left) (p .before .before .before .if1 .left) (p .loop-test .taken) _ (t .result) _ (t .ensures (r .store) (r .holds))
-
 loop-again : tie.Need-loop-again Inv-loop μ-loop
 loop-again c =
     let t = c .before .before .before .before .before .take-turn in
     let p = c .before .before .before .before .before .before .before .before .before .before .before .before in
     let r = p .before .loop .inv in
     runs-on _ _ _ _ _ _ _ r (p .before .before .if2 .left) (p .before .before .before .if1 .left) (p .loop-test .taken) _ (t .result) _ (t .ensures (r .store) (r .holds))
+
+loop-less : tie.Need-loop-less Inv-loop μ-loop
+loop-less c =
+    let t = c .before .before .before .before .before .take-turn in
+    let p = c .before .before .before .before .before .before .before .before .before .before .before .before in
+    let r = p .before .loop .inv in
+    less-left _ _ _ _ _ _ _ r (p .before .before .if2 .left) (p .before .before .before .if1 .left) (p .loop-test .taken) _ (t .result) _ (t .ensures (r .store) (r .holds))
 
 slice-aggregate-put-ending : tie.Need-slice-aggregate-put-ending Inv-loop μ-loop
 slice-aggregate-put-ending c = positions-long _ _ _ _ _ _ _ (c .before .before .before .before .before .loop .inv)
