@@ -48,23 +48,23 @@ unfolding cashShort
 held-cash c a m h = and-untrue (not (eqb m 0)) (ltZ (cashOn c a) (pos m)) (λ n. short-not (cashOn c a) m (h (zero-not m n)))
 
 -- a number that is not beyond ±10^15, by its test
-abbrev pub Bounded : ℤ → Type 0
-Bounded z = beyond z ≡ false
+abbrev pub NotBeyond : ℤ → Type 0
+NotBeyond z = beyond z ≡ false
 
 -- what the tests say where holdings, cash and limits allow
 pub record Permitted (st : Store) (h g : Half) (steps : List Step) : Type 0 where
   pub holdings : (x : Step) → List·Memᴰ x steps → floored (isKind (rowsOf (st .directory) .accounts)) (x .debited) ≡ true
       → pos (h .quantity) ≤ℤ heldIn (st .positions) (h .security) (x .debited)
   pub cash : h .amount ≢ 0 → pos (h .amount) ≤ℤ cashOn (st .cash) (g .account)
-  pub debitLimits : (x : Step) → List·Memᴰ x steps → Bounded (heldIn (st .positions) (h .security) (x .debited) -ℤ pos (h .quantity))
-  pub creditLimits : (x : Step) → List·Memᴰ x steps → Bounded (heldIn (st .positions) (h .security) (x .credited) +ℤ pos (h .quantity))
-  pub payerLimit : h .amount ≢ 0 → Bounded (cashOn (st .cash) (g .account) -ℤ pos (h .amount))
-  pub payeeLimit : h .amount ≢ 0 → Bounded (cashOn (st .cash) (h .account) +ℤ pos (h .amount))
+  pub debitLimits : (x : Step) → List·Memᴰ x steps → NotBeyond (heldIn (st .positions) (h .security) (x .debited) -ℤ pos (h .quantity))
+  pub creditLimits : (x : Step) → List·Memᴰ x steps → NotBeyond (heldIn (st .positions) (h .security) (x .credited) +ℤ pos (h .quantity))
+  pub payerLimit : h .amount ≢ 0 → NotBeyond (cashOn (st .cash) (g .account) -ℤ pos (h .amount))
+  pub payeeLimit : h .amount ≢ 0 → NotBeyond (cashOn (st .cash) (h .account) +ℤ pos (h .amount))
 
-bounded : (z : ℤ) → Within z → Bounded z
-bounded z w = denied (beyond z) (says-beyond z) w
+pub not-beyond : (z : ℤ) → Within z → NotBeyond z
+not-beyond z w = denied (beyond z) (says-beyond z) w
 
-within : (z : ℤ) → Bounded z → Within z
+within : (z : ℤ) → NotBeyond z → Within z
 within z b = denies (beyond z) (says-beyond z) b
 
 -- ---- with 22, over the numbers that change
@@ -133,10 +133,10 @@ module _ (st : Store) (h g : Half) (steps : List Step) where
       permitted-quiet (record {
         holdings = λ x m f. A .holdings x m (says-floored acc (x .debited) .holds f);
         cash = A .cash;
-        debitLimits = λ x m. bounded _ (A .debitLimits x m);
-        creditLimits = λ x m. bounded _ (A .creditLimits x m);
-        payerLimit = λ n. bounded _ (A .payerLimit n);
-        payeeLimit = λ n. bounded _ (A .payeeLimit n);
+        debitLimits = λ x m. not-beyond _ (A .debitLimits x m);
+        creditLimits = λ x m. not-beyond _ (A .creditLimits x m);
+        payerLimit = λ n. not-beyond _ (A .payerLimit n);
+        payeeLimit = λ n. not-beyond _ (A .payeeLimit n);
       })
 
   pub permitted-allowed : Permitted st h g steps → Allowed st h g steps

@@ -90,3 +90,11 @@ pub not-below : (k lo n : ℕ) → List·Memᴰ n (upFrom lo k []) → lo ≤ n
 not-below zero lo n i = elim i [ ]
 not-below (suc k) lo n (List·Memᴰ·head e) = omega arith
 not-below (suc k) lo n (List·Memᴰ·tail i) = omega (arith, not-below k (suc lo) n i)
+
+not-above : (k lo n : ℕ) → List·Memᴰ n (upFrom lo k []) → n < lo + k
+not-above zero lo n i = elim i [ ]
+not-above (suc k) lo n (List·Memᴰ·head e) = omega arith
+not-above (suc k) lo n (List·Memᴰ·tail i) = omega (arith, not-above k (suc lo) n i)
+
+pub places-range : (n : ℕ) → List·Memᴰ n places → (3 ≤ n) × (n ≤ 22)
+places-range n i = let l : n < 23 = not-above 20 3 n i in (not-below 20 3 n i, omega arith)

@@ -18,12 +18,12 @@ use Rattle.rules.specs.Lookups.{ask}
 use Rattle.rules.specs.Chain.{chained, stepsOf, chainConditions, stepLimit}
 use Rattle.rules.specs.Calls.{Store, Call, enter, move, pay, settle, derive, outcome, desk, deskConditions, deriveConditions, bookConditions, halvesConditions, halvesChain, success, lentSteps, written, writtenFor, countOf, numberOf, isAccepted}
 use Rattle.rules.specs.Stream.{stepLine, said, widthOf, callOf, programSteps}
-use Rattle.rules.specs.Demands.{Agree}
 use Rattle.rules.proofs.Basics.{Quiet}
 use Rattle.rules.proofs.Facts.{Facts}
 use Rattle.rules.proofs.Conditions.{quiet-both, quiet-chained}
 use Rattle.rules.proofs.ChainSize.{chain-few}
-use Rattle.rules.proofs.Agreement.{quiet-agree}
+use Rattle.rules.proofs.Places.{places-range}
+use Rattle.rules.proofs.Agreement.{Agreed, quiet-agree}
 use Rattle.rules.proofs.Refusals.{desk-quiet}
 use Rattle.rules.proofs.Soundness.{sound-gives}
 use Rattle.rules.proofs.Running.{Ready}
@@ -99,7 +99,7 @@ module _ (st : Store) (ready : Ready st) (h g : Half) (lent : List Step) where
   pair-brief a k q =
       let parts : Quiet (halvesConditions (ask rows) h g) × Quiet (chainConditions (halvesChain (ask rows) h g)) = quiet-both (halvesConditions (ask rows) h g) (chainConditions (halvesChain (ask rows) h g)) q in
       let is : halvesChain (ask rows) h g ≡ chained xs = quiet-chained (halvesChain (ask rows) h g) (parts .1) in
-      let agree : Agree rows h g = quiet-agree rows h g (parts .0) in
+      let agree : Agreed rows h g = quiet-agree rows h g (parts .0) in
       let facts : Facts rows = sound-gives (st .directory) (ready .soundBooks) in
       let small = steps-small rows facts (h .security) (h .account) (g .account) xs (agree .deliverer) (agree .receiver) (agree .two) is in
       record {
@@ -129,7 +129,7 @@ brief st ready n tag w o h k =
     (λ l p q. paired (derive p q programSteps) l (derive-brief st ready p q programSteps))
   where
     lower : (c : Call) → numberOf (desk c st .answer) < 100
-    lower c = low (desk c st .answer) (demand1 .desks c st .byNumber)
+    lower c = low (desk c st .answer) (λ e. places-range (numberOf (desk c st .answer)) (demand1 .desks c st .byNumber e))
 
     plain : (c : Call) → countOf (success c st) ≡ 0 → length (said n (desk c st .answer) (desk c st .steps)) ≤ 6 * (w + 1)
     plain c e =

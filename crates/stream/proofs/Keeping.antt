@@ -16,16 +16,19 @@ use Rattle.rules.specs.Lookups.{homeOf, ask}
 use Rattle.rules.specs.Chain.{stepsOf, chainConditions}
 use Rattle.rules.specs.Booking.{Way, positionCount, cashCount, beyond, position, balance, heldIn, cashOn, moveStep, moveBy, moveChain, payment, cashBeyond, stepBeyond, unitsBeyond, unitsShort}
 use Rattle.rules.specs.Calls.{Store, Call, enter, move, pay, settle, derive, desk, deskConditions, zeros, emptyStore, isAccepted}
-use Rattle.rules.specs.Demands.{Within, MovedUnits, MovedCents}
+use Rattle.rules.specs.Demands.{MovedUnits, MovedCents}
 use Rattle.rules.proofs.Basics.{or-none, any-none, Quiet}
 use Rattle.rules.proofs.Bookings.{Fate, spared, taken, handed, fate}
 use Rattle.rules.proofs.Conditions.{quiet-both}
+use Rattle.rules.proofs.Permissions.{NotBeyond, not-beyond}
+use Rattle.rules.proofs.MoveRelation.{contra-is}
+use Rattle.rules.proofs.Accepted.{facts-of}
 use Rattle.rules.proofs.Refusals.{desk-quiet, desk-clear, accepted-lowest}
 use Rattle.rules.proofs.Theorems.{demand1, demand2}
 
 pub record Bounded (st : Store) : Type 0 where
-  pub units : (s a : ℕ) → s < securityLimit → Within (heldIn (st .positions) s a)
-  pub cents : (a : ℕ) → Within (cashOn (st .cash) a)
+  pub units : (s a : ℕ) → s < securityLimit → NotBeyond (heldIn (st .positions) s a)
+  pub cents : (a : ℕ) → NotBeyond (cashOn (st .cash) a)
 
 -- ---- the empty store
 
@@ -35,7 +38,7 @@ zero-there zero k = refl
 zero-there (suc n) zero = refl
 zero-there (suc n) (suc k) = zero-there n k
 
-zero-within : {z : ℤ} → z ≡ pos 0 → Within z
+zero-within : {z : ℤ} → z ≡ pos 0 → NotBeyond z
 unfolding beyond
 zero-within e = rw e
 
@@ -45,52 +48,52 @@ empty-bounded = record { units = λ s a h. zero-within (zero-there positionCount
 
 -- ---- one call
 
-same-within : {y z : ℤ} → y ≡ z → Within z → Within y
+same-within : {y z : ℤ} → y ≡ z → NotBeyond z → NotBeyond y
 same-within e h = rw e h
 
 -- the units that a chain moved
 module _ (steps : List Step) (s q : ℕ) (before after : List ℤ) (m : MovedUnits steps s q before after)
-    (down : (x : Step) → List·Memᴰ x steps → Within (heldIn before s (x .debited) -ℤ pos q))
-    (up : (x : Step) → List·Memᴰ x steps → Within (heldIn before s (x .credited) +ℤ pos q))
-    (all : (t a : ℕ) → t < securityLimit → Within (heldIn before t a)) where
-  moved-here : (a : ℕ) → s < securityLimit → Within (heldIn after s a)
+    (down : (x : Step) → List·Memᴰ x steps → NotBeyond (heldIn before s (x .debited) -ℤ pos q))
+    (up : (x : Step) → List·Memᴰ x steps → NotBeyond (heldIn before s (x .credited) +ℤ pos q))
+    (all : (t a : ℕ) → t < securityLimit → NotBeyond (heldIn before t a)) where
+  moved-here : (a : ℕ) → s < securityLimit → NotBeyond (heldIn after s a)
   moved-here a h = go (fate a steps)
     where
-      go : Fate a steps → Within (heldIn after s a)
+      go : Fate a steps → NotBeyond (heldIn after s a)
       go (spared n) = same-within (m .others a n) (all s a h)
       go (taken x i e) = rw e (same-within (m .debits x i) (down x i))
       go (handed x i e) = rw e (same-within (m .credits x i) (up x i))
 
-  units-kept : (t a : ℕ) → t < securityLimit → Within (heldIn after t a)
+  units-kept : (t a : ℕ) → t < securityLimit → NotBeyond (heldIn after t a)
   units-kept t a h = go (ℕ-discrete t s)
     where
-      go : Dec (t ≡ s) → Within (heldIn after t a)
+      go : Dec (t ≡ s) → NotBeyond (heldIn after t a)
       go (yes e) = let k : s < securityLimit = omega arith in rw e (moved-here a k)
       go (no ne) = same-within (m .otherSecurities a t h ne) (all t a h)
 
 -- the cents that a settlement moved
 module _ (payer payee n : ℕ) (before after : List ℤ) (m : MovedCents payer payee n before after)
-    (down : n ≢ 0 → Within (cashOn before payer -ℤ pos n)) (up : n ≢ 0 → Within (cashOn before payee +ℤ pos n))
-    (all : (a : ℕ) → Within (cashOn before a)) where
+    (down : n ≢ 0 → NotBeyond (cashOn before payer -ℤ pos n)) (up : n ≢ 0 → NotBeyond (cashOn before payee +ℤ pos n))
+    (all : (a : ℕ) → NotBeyond (cashOn before a)) where
   -- amount 0 touches none
-  moved-by : (z y : ℤ) → (n ≢ 0 → Within z) → (n ≡ 0 → z ≡ y) → Within y → Within z
+  moved-by : (z y : ℤ) → (n ≢ 0 → NotBeyond z) → (n ≡ 0 → z ≡ y) → NotBeyond y → NotBeyond z
   moved-by z y f k h = go (ℕ-discrete n 0)
     where
-      go : Dec (n ≡ 0) → Within z
+      go : Dec (n ≡ 0) → NotBeyond z
       go (yes d) = same-within (k d) h
       go (no d) = f d
 
-  cents-kept : (a : ℕ) → Within (cashOn after a)
+  cents-kept : (a : ℕ) → NotBeyond (cashOn after a)
   cents-kept a = go (ℕ-discrete a payer) (ℕ-discrete a payee)
     where
-      go : Dec (a ≡ payer) → Dec (a ≡ payee) → Within (cashOn after a)
+      go : Dec (a ≡ payer) → Dec (a ≡ payee) → NotBeyond (cashOn after a)
       go (yes e) k = rw e (same-within (m .pays) (moved-by _ (cashOn before payer) down (λ d. rw d (+ℤ-idr (cashOn before payer))) (all payer)))
       go (no ne) (yes e) = rw e (same-within (m .paid) (moved-by _ (cashOn before payee) up (λ d. rw d (+ℤ-idr (cashOn before payee))) (all payee)))
       go (no ne) (no nf) = same-within (m .others a ne nf) (all a)
 
 -- 22 of a chain of one step
 one-beyond : (p : List ℤ) (s q : ℕ) (x y : Step) → unitsBeyond p s q (x ∷ []) ≡ false → List·Memᴰ y (x ∷ [])
-    → Within (heldIn p s (y .debited) -ℤ pos q) × Within (heldIn p s (y .credited) +ℤ pos q)
+    → NotBeyond (heldIn p s (y .debited) -ℤ pos q) × NotBeyond (heldIn p s (y .credited) +ℤ pos q)
 unfolding unitsBeyond
 one-beyond p s q x y e i =
     or-none (beyond (heldIn p s (y .debited) -ℤ pos q)) (beyond (heldIn p s (y .credited) +ℤ pos q)) (any-none (stepBeyond p s q) (x ∷ []) e y i)
@@ -103,9 +106,11 @@ module _ (st : Store) (b : Bounded st) where
   unfolding moveChain
   move-kept w a s q e =
       let k = demand2 .changes (move w a s q) st e in
-      let all : Quiet (deskConditions (move w a s q) st) = desk-quiet (move w a s q) st (accepted-lowest (move w a s q) st e) in
+      let clear = accepted-lowest (move w a s q) st e in
+      let all : Quiet (deskConditions (move w a s q) st) = desk-quiet (move w a s q) st clear in
+      let other = contra-is rows (facts-of (move w a s q) st clear) s (homeOf (rows .accounts) a) (k .1 .0) (k .1 .1) in
       let x : Step = moveStep w (homeOf (rows .accounts) a) a (k .1 .0) in
-      let one : stepsOf (moveChain (ask rows) w a s) ≡ x ∷ [] = ap (λ o. stepsOf (moveBy w (homeOf (rows .accounts) a) a o)) (k .1 .1) in
+      let one : stepsOf (moveChain (ask rows) w a s) ≡ x ∷ [] = ap (λ o. stepsOf (moveBy w (homeOf (rows .accounts) a) a o)) other in
       let free : unitsBeyond (st .positions) s q (x ∷ []) ≡ false =
       ap (unitsBeyond (st .positions) s q) (sym one)
       ∙ quiet-both (chainConditions (moveChain (ask rows) w a s))
@@ -125,7 +130,7 @@ module _ (st : Store) (b : Bounded st) where
     where
       go : (c : ℕ) → cashOn (desk (pay w a m) st .store .cash) a ≡ cashOn (st .cash) a +ℤ payment w m .0
           → ((c : ℕ) → c ≢ a → cashOn (desk (pay w a m) st .store .cash) c ≡ cashOn (st .cash) c)
-          → Within (cashOn (st .cash) a +ℤ payment w m .0) → Dec (c ≡ a) → Within (cashOn (desk (pay w a m) st .store .cash) c)
+          → NotBeyond (cashOn (st .cash) a +ℤ payment w m .0) → Dec (c ≡ a) → NotBeyond (cashOn (desk (pay w a m) st .store .cash) c)
       go c here there free (yes f) = rw f (same-within here free)
       go c here there free (no ne) = same-within (there c ne) (b .cents c)
 
@@ -136,12 +141,12 @@ module _ (st : Store) (b : Bounded st) where
       let free = k .1 .allowed in
       let pair = k .3 in
       record {
-        units = units-kept (k .0) (h .security) (h .quantity) (st .positions) _ (pair .positions) (free .debitLimits) (free .creditLimits) (b .units);
-        cents = cents-kept (g .account) (h .account) (h .amount) (st .cash) _ (pair .cash) (free .payerLimit) (free .payeeLimit) (b .cents);
+        units = units-kept (k .0) (h .security) (h .quantity) (st .positions) _ (pair .positions) (λ x i. not-beyond _ (free .debitLimits x i)) (λ x i. not-beyond _ (free .creditLimits x i)) (b .units);
+        cents = cents-kept (g .account) (h .account) (h .amount) (st .cash) _ (pair .cash) (λ n. not-beyond _ (free .payerLimit n)) (λ n. not-beyond _ (free .payeeLimit n)) (b .cents);
       }
 
   accepted-kept : (c : Call) → isAccepted (desk c st .answer) ≡ true → Bounded (desk c st .store)
-  accepted-kept (enter x) e = let k = demand2 .changes (enter x) st e in record { units = rw (k .1) (b .units); cents = rw (k .2) (b .cents) }
+  accepted-kept (enter x) e = let k = demand2 .changes (enter x) st e in record { units = rw (k .2) (b .units); cents = rw (k .3) (b .cents) }
   accepted-kept (move w a s q) e = move-kept w a s q e
   accepted-kept (pay w a m) e = pay-kept w a m e
   accepted-kept (settle h g lent) e = settle-kept h g lent e

@@ -17,7 +17,7 @@ use Rattle.rules.specs.Tests.{isRow}
 use Rattle.rules.specs.Directory.{Rows, rowsOf, securityLimit, accountLimit, isKind}
 use Rattle.rules.specs.Booking.{beyond, heldIn, cashOn, sumBeyond, participants, everyAccount, cashCount, participantSum, securityTotal, cashTotal}
 use Rattle.rules.specs.Calls.{Store}
-use Rattle.rules.specs.Demands.{Within}
+use Rattle.rules.proofs.Permissions.{NotBeyond}
 use Rattle.rules.specs.Stream.{totalLine, totalLines, ending}
 use Rattle.rules.proofs.Basics.{or-false, ltb-true}
 use Rattle.rules.proofs.Soundness.{sound-gives}
@@ -106,7 +106,7 @@ ending-is h st i t =
 
 -- ---- no total is refused
 
-none-beyond : (w : ℕ → Bool) (f : ℕ → ℤ) (n : ℕ) → ((a : ℕ) → Within (f a)) → sumBeyond w f n ≡ false
+none-beyond : (w : ℕ → Bool) (f : ℕ → ℤ) (n : ℕ) → ((a : ℕ) → NotBeyond (f a)) → sumBeyond w f n ≡ false
 unfolding sumBeyond
 none-beyond w f zero h = refl
 none-beyond w f (suc n) h = or-false (sumBeyond w f n) (w n && beyond (f n)) (none-beyond w f n h) (rw (h n) (go (w n)))
