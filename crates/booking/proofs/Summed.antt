@@ -12,8 +12,8 @@ use Rattle.rules.specs.declared.Cents.{Cents}
 use Rattle.rules.specs.declared.SecurityTotal.the-variants.{SumUnits, NoUnits}
 use Rattle.rules.specs.declared.CashTotal.the-variants.{SumCents, NoCents}
 use Rattle.rules.specs.Directory.{accountLimit}
-use Rattle.rules.specs.Booking.{beyond, sum, sumBeyond, participants, heldIn, everyAccount, cashOn, cashTotal, cashCount}
-use Rattle.booking.specs.Sums.{participantTotal}
+use Rattle.rules.specs.Booking.{beyond, sum, sumBeyond, participants, heldIn, everyAccount, cashOn, cashCount}
+use Rattle.booking.specs.Sums.{participantTotal, cashTotal}
 use Rattle.rules.proofs.Basics.{or-left, or-right}
 use Rattle.rules.proofs.Sums.{pick}
 use Rattle.booking.proofs.Bounds.{Within, within-one, within-plus}

@@ -14,10 +14,9 @@ use rules::PARTICIPANT;
 use rules::SecurityTotal;
 use rules::Units;
 ghost use mathlib.Core.Path.{_≡_};
-ghost use Rattle.rules.specs.Booking.{securityTotal, cashTotal};
 ghost use Rattle.index.specs.Asked.{asked};
 ghost use Rattle.booking.specs.Sums;
-ghost use Rattle.booking.specs.Sums.{participantTotal};
+ghost use Rattle.booking.specs.Sums.{participantTotal, securityTotal, cashTotal};
 
 // The number behind that of the last account.
 const ALL: u16 = ACCOUNTS as u16;

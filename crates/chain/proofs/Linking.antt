@@ -6,13 +6,13 @@ use mathlib.Core.List.{List, _++_, append-assoc}
 use native.Mathlib.Omega.{arith}
 use Rattle.rules.specs.declared.Step.{Step}
 use Rattle.rules.specs.Lookups.{Lookups}
-use Rattle.rules.specs.Chain.{Chain, chained, unchained, chainBy, climbed, unpaired, climb, linkUp, topSteps, lastOf, turned, along, stepLimit}
+use Rattle.rules.specs.Chain.{Chain, chained, unchained, climbed, unpaired, climb, linkUp, topSteps, lastOf, turned, along, stepLimit}
 use Rattle.rules.proofs.Basics.{clash, and-both}
 use Rattle.walks.specs.Sides.{named}
 use Rattle.walks.specs.Routes.{routeOf, routeBy}
 use Rattle.walks.specs.declared.routes.RouteFound.{RouteFound}
 use Rattle.chain.specs.StepList.{stepsIn, Holds}
-use Rattle.chain.specs.Steps.{climbIn, FoundIn}
+use Rattle.chain.specs.Steps.{climbIn, FoundIn, chainBy}
 use Rattle.chain.specs.declared.steps.Reached.{Reached}
 use Rattle.chain.specs.declared.steps.Found.{Found}
 use Rattle.chain.proofs.StepList.{steps-none, noted-none}

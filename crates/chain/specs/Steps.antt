@@ -1,14 +1,19 @@
 -- What sides climbed into a list of numbers, steps added to one, and a chain found stand for.
-use Prim.Native.Nat.{ℕ, _≤_}
+use Prim.Native.Nat.{ℕ, zero, suc, _≤_}
 use mathlib.Core.Path.{_≡_}
 use mathlib.Core.Bool.{cond}
 use mathlib.Core.List.{List, _++_}
 use lib.ListN.{length}
 use Rattle.rules.specs.declared.Step.{Step}
-use Rattle.rules.specs.Chain.{Climb, climbed, unpaired, Chain, chainBy, stepsOf, stepLimit}
+use Rattle.rules.specs.Chain.{Climb, climbed, unpaired, Chain, chained, unchained, stepsOf, stepLimit}
 use Rattle.chain.specs.StepList.{stepNumbers, stepsIn, noted, Holds}
 use Rattle.chain.specs.declared.steps.Reached.{Reached}
 use Rattle.chain.specs.declared.steps.Found.{Found}
+
+-- a refusal of 0 says that there is a chain
+abbrev pub chainBy : ℕ → List Step → Chain
+chainBy zero ss = chained ss
+chainBy (suc n) ss = unchained (suc n)
 
 -- a side climbed, whose steps stand in front of the list
 abbrev pub climbIn : Reached → List ℕ → Climb

@@ -23,7 +23,7 @@ use Rattle.rules.specs.Directory.{rowsOf}
 use Rattle.rules.specs.Entries.{sound}
 use Rattle.rules.specs.Lookups.{Lookups, ask}
 use Rattle.rules.specs.Chain.{step, stepLimit}
-use Rattle.rules.specs.Booking.{Way, positionCount, cashCount, participantSum, securityTotalBy, securityTotalConditions, securityTotal, cashTotal}
+use Rattle.rules.specs.Booking.{Way, positionCount, cashCount, participantSum, securityTotalBy, securityTotalConditions}
 use Rattle.rules.specs.Calls.{Store, Call, Outcome, move, pay, settle, derive, misfit, core, countOf, written, deskSecurityTotal, deskCashTotal}
 use Rattle.rules.proofs.Basics.{eqb-true, eqb-false}
 use Rattle.index.specs.Asked.{asked}
@@ -38,10 +38,12 @@ use Rattle.booking.specs.Payments.{payOutcome}
 use Rattle.booking.specs.Settling.{settleOutcome, settleInto, Settles}
 use Rattle.booking.proofs.Calls.{movedOn, core-moves, paidOn, core-pays, settledOn, core-settles}
 use Rattle.booking.proofs.Settled.{settle-fits}
-use Rattle.rules.specs.Outcomes.{holding, movementOn, paymentOn, settlementOn, derivationOn, blanks, byValue, refusal, replyOf}
+use Rattle.rules.specs.Outcomes.{holding, movementOn, paymentOn, settlementOn, derivationOn, blanks, byValue, replyOf}
 use Rattle.desk.specs.Early.{early, Admits}
 use Rattle.desk.proofs.Before.{lowest-early, lowest-later, early-refused, early-passed}
 use Rattle.desk.proofs.Lent.{derives, settles, core-few}
+use Rattle.booking.specs.Sums.{securityTotal, cashTotal}
+use Rattle.desk.specs.Replies.{refusal}
 
 abbrev answerOf : Outcome → Answer
 answerOf o = o .answer

@@ -17,12 +17,13 @@ use Rattle.rules.specs.declared.Reply.{Reply}
 use Rattle.rules.specs.Tests.{lowest}
 use Rattle.rules.specs.Directory.{rowsOf}
 use Rattle.rules.specs.Lookups.{ask}
-use Rattle.rules.specs.Chain.{Chain, chained, unchained, stepsOf, stepRows, stepLimit, step}
+use Rattle.rules.specs.Chain.{Chain, chained, unchained, stepsOf, stepLimit, step}
 use Rattle.rules.specs.Booking.{positionCount, cashCount}
 use Rattle.rules.specs.Calls.{Store, Call, settle, derive, Outcome, outcome, core, coreConditions, desk, misfit, deskConditions, halvesChain, written, countOf}
 use Rattle.rules.proofs.Basics.{or-none, ltb-not}
 use Rattle.rules.proofs.ChainSize.{chain-few}
 use Rattle.rules.specs.Outcomes.{holding, settlementOn, derivationOn, blanks, byValue, replyOf}
+use Rattle.desk.specs.Replies.{stepRows}
 
 -- the two calls that are lent a step list
 pub data Lender : Type 0 where

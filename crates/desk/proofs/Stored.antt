@@ -7,10 +7,11 @@ use lib.Seq.{take-suc, drop-cons, set-append-seam}
 use native.Mathlib.Omega.{arith}
 use Rattle.rules.specs.declared.Step.{Step}
 use Rattle.rules.specs.declared.Steps.{Steps}
-use Rattle.rules.specs.Chain.{step, stepRows, stepLimit}
+use Rattle.rules.specs.Chain.{step, stepLimit}
 use Rattle.rules.specs.Calls.{written}
 use Rattle.chain.specs.StepList.{stepAt, stepsIn}
 use Rattle.rules.specs.Outcomes.{blanks, byValue}
+use Rattle.desk.specs.Replies.{stepRows}
 
 -- the list with the first k steps at its start
 abbrev pub stored : (ℕ → Step) → ℕ → List Step → List Step

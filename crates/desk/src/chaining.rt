@@ -17,12 +17,13 @@ use rules::STEPS;
 use rules::Step;
 use rules::Steps;
 ghost use mathlib.Core.Path.{_≡_};
-ghost use Rattle.rules.specs.Chain.{stepLimit, step, stepRows};
-ghost use Rattle.rules.specs.Outcomes.{settlementOn, derivationOn, blanks, replyOf, byValue, refusal};
+ghost use Rattle.rules.specs.Chain.{stepLimit, step};
+ghost use Rattle.rules.specs.Outcomes.{settlementOn, derivationOn, blanks, replyOf, byValue};
 ghost use Prim.Native.Nat.{_≤_, _<_};
 ghost use lib.ListN.{length, getD};
 ghost use Rattle.rules.specs.Calls.{countOf, written};
 ghost use Rattle.chain.specs.StepList.{stepsIn};
+ghost use Rattle.desk.specs.Replies.{stepRows, refusal};
 
 // ---- by value
 

@@ -4,8 +4,8 @@ use mathlib.Core.Path.{_≡_, refl}
 use Rattle.rules.specs.declared.Directory.{Directory}
 use Rattle.rules.specs.Tests.{lowest}
 use Rattle.rules.specs.Directory.{rowsOf}
-use Rattle.rules.specs.Entries.{Row, csdRow, securityRow, accountRow, pairRow, linkRow, rowConditions, addRow, enteredBy, enterRow}
-use Rattle.entries.specs.Entered.{Kept, Keeps, refusalIn, withRowIn, answered, keptBy, enteredIn}
+use Rattle.rules.specs.Entries.{Row, csdRow, securityRow, accountRow, pairRow, linkRow, rowConditions, addRow}
+use Rattle.entries.specs.Entered.{Kept, Keeps, refusalIn, withRowIn, answered, keptBy, enteredIn, enteredBy, enterRow}
 use Rattle.entries.proofs.Refusing.{refusal-is}
 use Rattle.entries.proofs.NewCsd.{csd-added}
 use Rattle.entries.proofs.NewSecurity.{security-added}

@@ -13,9 +13,10 @@ use Rattle.rules.specs.declared.Link.{Link}
 use Rattle.rules.specs.declared.Directory.{Directory}
 use Rattle.rules.specs.declared.Answer.{Answer}
 use Rattle.rules.specs.declared.Answer.the-variants.{Accepted, Refused}
+use Rattle.rules.specs.declared.Entered.{Entered}
 use Rattle.rules.specs.Tests.{lowest}
 use Rattle.rules.specs.Directory.{rowsOf, csdLimit, securityLimit, noAccount}
-use Rattle.rules.specs.Entries.{Row, csdRow, securityRow, accountRow, pairRow, linkRow, csdConditions, securityConditions, accountConditions, pairConditions, linkConditions}
+use Rattle.rules.specs.Entries.{Row, csdRow, securityRow, accountRow, pairRow, linkRow, csdConditions, securityConditions, accountConditions, pairConditions, linkConditions, rowConditions, addRow}
 use Rattle.index.specs.Index.{Indexed, Place, csdCount, securityCount, accountCount, pairCount, linkCount, placeOf, types, homes, kinds, paired, mirrors, omnibuses, routes, issuances, linked, issuerCode, numberAt, withNumber}
 use Rattle.index.specs.Asked.{read, asked}
 use Rattle.entries.specs.Names.{bicSize, isinSize, isins, bicIn, isinIn, withBytes, Named}
@@ -158,3 +159,12 @@ keptBy (suc n) x k = k
 -- all that is kept after an entry
 unfoldable pub enteredIn : Row → Kept → Kept
 enteredIn x k = keptBy (refusalIn k x) x k
+
+-- by the refusal's number, 0 for none
+abbrev pub enteredBy : ℕ → Row → Directory → Entered
+enteredBy zero x d = record { answer = Accepted; directory = addRow x d }
+enteredBy (suc n) x d = record { answer = Refused (suc n); directory = d }
+
+-- an entry into a directory, sound or not: its answer, and the directory after it
+unfoldable pub enterRow : Row → Directory → Entered
+enterRow x d = enteredBy (lowest (rowConditions (rowsOf d) x)) x d

@@ -57,7 +57,7 @@ module _ (cs : List Csd) (x : Csd) where
   twice : Says (CsdRefused cs x 9) (bicEntered cs (x .bic))
   twice = says-as (says-bic-entered cs (x .bic)) (λ h. Refusals.bicEntered (h .0) (h .1) (h .2)) from
     where
-      from : CsdRefused cs x 9 → (y : Csd) × List·Memᴰ y cs × Refusals.SameBic (y .bic) (x .bic)
+      from : CsdRefused cs x 9 → (y : Csd) × List·Memᴰ y cs × Refusals.Same 8 (y .bic) (x .bic)
       from (Refusals.bicEntered y m s) = (y, m, s)
 
   pub csd-renders : Renders (CsdRefused cs x) (csdConditions (isFull csdLimit cs) (bicEntered cs) x) entryPlaces
@@ -101,7 +101,7 @@ module _ (ss : List Security) (x : Security) where
   isin-twice : Says (SecurityRefused ss x 9) (isinEntered ss (x .isin))
   isin-twice = says-as (says-isin-entered ss (x .isin)) (λ h. Refusals.isinEntered (h .0) (h .1) (h .2)) from
     where
-      from : SecurityRefused ss x 9 → (y : Security) × List·Memᴰ y ss × Refusals.SameIsin (y .isin) (x .isin)
+      from : SecurityRefused ss x 9 → (y : Security) × List·Memᴰ y ss × Refusals.Same 12 (y .isin) (x .isin)
       from (Refusals.isinEntered y m s) = (y, m, s)
 
   pub security-renders : Renders (SecurityRefused ss x) (securityConditions (isFull securityLimit ss) (isinEntered ss) x) entryPlaces

@@ -13,33 +13,27 @@ use Rattle.rules.specs.Booking
 use Rattle.rules.specs.Calls
 use Rattle.rules.specs.Stream
 use Rattle.rules.specs.Stream.{bytes}
-use Rattle.rules.specs.Examples.{Example, examples, drawn, derived, sampleCalls, sampleAnswers, samplePositions, answersOf, firstPositions, sampleInput, sampleOutput}
-
--- "XS0000000009 and XS0000000017 are valid, XS0000000008 is not."
-pub isin-examples : (isinChecks (bytes "XS0000000009") ∷ isinChecks (bytes "XS0000000017") ∷ isinChecks (bytes "XS0000000008") ∷ []) ≡ (true ∷ true ∷ false ∷ [])
-unfolding spread alternating isinSum isinChecks
-isin-examples = refl
+use Rattle.rules.proofs.Identifiers.{left-is-right}
+use Rattle.rules.specs.Examples.{Example, examples, drawn, derived, sampleCalls, sampleAnswers, samplePositions, sampleInput, sampleOutput, Starred, IsinShown, SampleShown}
 
 -- the starred chains, and the one that stands behind them, collected
-pub chains : map derived examples ≡ map (λ (e : Example). e .gives) examples
+chains : map derived examples ≡ map (λ (e : Example). e .gives) examples
 unfolding examples Directory.external Directory.pairOf Directory.hasIssuer Directory.hasLinkTo Directory.issuerLink Directory.defaultLink defaultHop directedHop walk Chain.isNamed Chain.firstShared Chain.upTo Chain.route Chain.climb Chain.turned Chain.lastOf Lookups.issuance Lookups.homeOf Chain.chain
 chains = refl
 
 -- each of these directories is sound
-pub sound-examples : map (λ (e : Example). Entries.soundRows (drawn (e .links))) examples ≡ map (λ (e : Example). true) examples
+sound-examples : map (λ (e : Example). Entries.soundRows (drawn (e .links))) examples ≡ map (λ (e : Example). true) examples
 unfolding examples isRow isFull isBic sameBic isIsin sameIsin spread alternating isinSum isinChecks Directory.external Directory.isKind Directory.inBooks Directory.isJoined Directory.isPaired Directory.hasLink Directory.hasIssuer Directory.hasInvestor Directory.hasLinkTo Directory.bicEntered Entries.csdRefusal Directory.isinEntered Entries.securityRefusal Entries.accountRefusal Entries.pairRefusal Entries.linkRefusal Entries.csdsSound Entries.securitiesSound Entries.accountsSound Entries.pairsSound Entries.linksSound Entries.soundRows
 sound-examples = refl
 
+pub starred : Starred
+starred = record { chains = chains; sound = sound-examples }
+
+pub isin-shown : IsinShown
+unfolding spread alternating isinSum isinChecks
+isin-shown = record { examples = refl; rule = left-is-right }
+
 -- the sample run's thirteen answers, the positions that it leaves, and the text that it prints
-sample : (answersOf (Calls.run sampleCalls .items) ≡ sampleAnswers) × (firstPositions (Calls.run sampleCalls .store .positions) ≡ samplePositions) × (Stream.transcript sampleInput ≡ sampleOutput)
+pub sample-shown : SampleShown
 unfolding sampleCalls sampleAnswers samplePositions isRow isFull isBic sameBic isIsin sameIsin spread alternating isinSum isinChecks defaultHop directedHop walk Directory.external Directory.isKind Directory.inBooks Directory.pairOf Directory.isJoined Directory.isPaired Directory.hasLink Directory.hasIssuer Directory.hasInvestor Directory.hasLinkTo Directory.issuerLink Directory.defaultLink Directory.bicEntered Entries.csdRefusal Directory.isinEntered Entries.securityRefusal Entries.accountRefusal Entries.pairRefusal Entries.linkRefusal Entries.emptyDirectory Entries.csdsSound Entries.securitiesSound Entries.accountsSound Entries.pairsSound Entries.linksSound Entries.withinLimits Entries.soundRows Entries.sound Chain.isNamed Chain.firstShared Chain.upTo Chain.route Chain.climb Chain.turned Chain.lastOf Lookups.issuance Lookups.homeOf Chain.chain Booking.beyond Booking.position Booking.balance Booking.addUnits Booking.addCents Booking.moved Booking.booked Booking.unitsShort Booking.unitsBeyond Booking.cashShort Booking.cashBeyond Booking.paid Booking.paymentBeyond Booking.contra Booking.moveChain Booking.sum Calls.misfit Calls.desk Calls.zeros Calls.emptyStore sampleInput sampleOutput Stream.numberAt Stream.callOf Stream.nextOf Stream.digits Stream.signed Stream.stepLine Stream.stepLines Stream.answerText Stream.said Stream.totalLine Stream.totalLines Stream.cashLine Stream.ending Stream.linesFrom Stream.transcript
-sample = (refl, refl, refl)
-
-pub sample-answers : answersOf (Calls.run sampleCalls .items) ≡ sampleAnswers
-sample-answers = sample .0
-
-pub sample-positions : firstPositions (Calls.run sampleCalls .store .positions) ≡ samplePositions
-sample-positions = sample .1
-
-pub sample-text : Stream.transcript sampleInput ≡ sampleOutput
-sample-text = sample .2
+sample-shown = record { answers = refl; positions = refl; text = refl }

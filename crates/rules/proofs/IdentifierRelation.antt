@@ -13,7 +13,7 @@ use Rattle.rules.specs.Tests.{any, allBelow}
 use Rattle.rules.specs.Identifiers.{capital, digitsOf, capitalOrDigit, byteAt, isBic, sameBic, isIsin, sameIsin, spread, doubled, alternating, isinSum, isinChecks}
 use Rattle.rules.specs.Identifiers
 use Rattle.rules.specs.Directory.{bicEntered, isinEntered}
-use Rattle.rules.specs.Refusals.{Capital, Digit, CapitalOrDigit, SameBic, SameIsin, Spelt, Adds, two}
+use Rattle.rules.specs.Refusals.{Capital, Digit, CapitalOrDigit, Same, Spelt, Adds, two}
 use Rattle.rules.specs.Refusals
 use Rattle.rules.proofs.Basics.{clash, and-both, eqb-is, eqb-true}
 use Rattle.rules.proofs.Reflection.{Says, says-as, says-not, says-or, says-and, says-not-and, says-eq, says-le, says-any, says-below, says-not-below, denied}
@@ -33,7 +33,7 @@ pub says-no-bic : (b : List ℕ) → Says ((k : ℕ) × (k < 11) × (CapitalOrDi
 unfolding isBic
 says-no-bic b = says-not-below 11 (λ k. capitalOrDigit (byteAt b k)) (λ k. says-either (byteAt b k))
 
-pub says-bic-entered : (cs : List Csd) (b : List ℕ) → Says ((y : Csd) × List·Memᴰ y cs × SameBic (y .bic) b) (bicEntered cs b)
+pub says-bic-entered : (cs : List Csd) (b : List ℕ) → Says ((y : Csd) × List·Memᴰ y cs × Same 8 (y .bic) b) (bicEntered cs b)
 unfolding bicEntered sameBic
 says-bic-entered cs b =
     says-any (λ (y : Csd). sameBic (y .bic) b) cs (λ y. says-below 8 (λ k. eqb (byteAt (y .bic) k) (byteAt b k)) (λ k. says-eq (byteAt (y .bic) k) (byteAt b k)))
@@ -49,7 +49,7 @@ says-no-isin i =
     (says-not-below 9 (λ k. capitalOrDigit (byteAt i (2 + k))) (λ k. says-either (byteAt i (2 + k))))
     (says-not (Identifiers.digit (byteAt i 11)) (says-digit (byteAt i 11))))
 
-pub says-isin-entered : (ss : List Security) (i : List ℕ) → Says ((y : Security) × List·Memᴰ y ss × SameIsin (y .isin) i) (isinEntered ss i)
+pub says-isin-entered : (ss : List Security) (i : List ℕ) → Says ((y : Security) × List·Memᴰ y ss × Same 12 (y .isin) i) (isinEntered ss i)
 unfolding isinEntered sameIsin
 says-isin-entered ss i =
     says-any (λ (y : Security). sameIsin (y .isin) i) ss (λ y. says-below 12 (λ k. eqb (byteAt (y .isin) k) (byteAt i k)) (λ k. says-eq (byteAt (y .isin) k) (byteAt i k)))

@@ -1,20 +1,22 @@
 -- Demand 1: the conditions of every call and of the totals are listed by ascending numbers, 3 to 22.
 use mathlib.Core.Path.{_≡_, refl, sym, ap, _∙_}
 use mathlib.Core.Logic.{_⊎_, inl, inr}
-use mathlib.Core.Bool.{true, true≢false}
-use mathlib.Core.List.{List}
+use mathlib.Core.Bool.{true, not, true≢false}
+use mathlib.Core.List.{List, _∷_}
 use mathlib.Core.Option.{Option, none, some}
 use Prim.Native.Nat.{ℕ, zero, suc, _≤_}
 use native.Mathlib.Omega.{arith}
 use Rattle.rules.specs.Types.{Directory, Half, Units, Cents, Refused}
 use lib.IntN.{ℤ}
-use Rattle.rules.specs.Tests.{lowest}
+use lib.Dec.{eqb}
+use lib.ListN.{length}
+use Rattle.rules.specs.Tests.{Condition, _when_, lowest}
 use Rattle.rules.specs.Directory.{Rows, rowsOf}
-use Rattle.rules.specs.Entries.{Row, csdRow, securityRow, accountRow, pairRow, linkRow, rowConditions}
+use Rattle.rules.specs.Entries.{Row, csdRow, securityRow, accountRow, pairRow, linkRow, rowConditions, sound}
 use Rattle.rules.specs.Lookups.{homeOf, ask}
 use Rattle.rules.specs.Chain.{unchained, stepsOf, chainConditions}
-use Rattle.rules.specs.Booking.{Way, contra, moveBy, moveChain, securityTotalBy, cashTotalBy}
-use Rattle.rules.specs.Calls.{Store, Call, enter, move, pay, settle, derive, desk, core, outcome, success, coreConditions, deskConditions, halvesConditions, halvesChain, deriveConditions, bookConditions, isAccepted, numberOf, unitsNumber, centsNumber, deskUnitsConditions, deskCashConditions, deskSecurityTotal, deskCashTotal}
+use Rattle.rules.specs.Booking.{Way, contra, moveBy, moveChain, positionCount, cashCount, securityTotalBy, securityTotalConditions, cashTotalBy, cashTotalConditions}
+use Rattle.rules.specs.Calls.{Store, Call, enter, move, pay, settle, derive, desk, core, outcome, success, coreConditions, deskConditions, halvesConditions, halvesChain, deriveConditions, bookConditions, isAccepted, numberOf, unitsNumber, centsNumber, deskSecurityTotal, deskCashTotal}
 use Rattle.rules.specs.Demands.{Numbered, Refuses}
 use Rattle.rules.proofs.Basics.{impossible, Quiet, quiet}
 use Rattle.rules.proofs.Places.{in-places}
@@ -110,6 +112,14 @@ core-refuses c st =
     (lowest-range 3 22 (coreConditions c st) (ascending-lower 3 5 22 (coreConditions c st) (omega arith) (core-ascends c st)))
 
 -- ---- the totals
+
+-- the conditions of the total of a security, and of cash
+abbrev pub unitsConditions : Directory → List ℤ → ℕ → List Condition
+unitsConditions d p s = 3 when not (eqb (length p) positionCount) ∷ 4 when not (sound d) ∷ securityTotalConditions (ask (rowsOf d)) p s
+
+abbrev pub cashConditions : List ℤ → List Condition
+cashConditions c = 3 when not (eqb (length c) cashCount) ∷ cashTotalConditions c
+
 units-by : (n : ℕ) (z : Units) → (n ≡ 0) ⊎ ((3 ≤ n) × (n ≤ 22)) → Numbered (unitsNumber (securityTotalBy n z))
 units-by zero z h = λ ne. absurd (ne refl)
 units-by (suc n) z (inl e) = absurd (omega arith)
@@ -118,7 +128,7 @@ units-by (suc n) z (inr h) = λ ne. in-places (suc n) (h .0) (h .1)
 pub units-numbered : (d : Directory) (p : List ℤ) (s : ℕ) → Numbered (unitsNumber (deskSecurityTotal d p s))
 unfolding deskSecurityTotal
 units-numbered d p s =
-    units-by (lowest (deskUnitsConditions d p s)) _ (lowest-range 3 22 (deskUnitsConditions d p s) refl)
+    units-by (lowest (unitsConditions d p s)) _ (lowest-range 3 22 (unitsConditions d p s) refl)
 
 cents-by : (n : ℕ) (z : Cents) → (n ≡ 0) ⊎ ((3 ≤ n) × (n ≤ 22)) → Numbered (centsNumber (cashTotalBy n z))
 cents-by zero z h = λ ne. absurd (ne refl)
@@ -127,4 +137,4 @@ cents-by (suc n) z (inr h) = λ ne. in-places (suc n) (h .0) (h .1)
 
 pub cents-numbered : (c : List ℤ) → Numbered (centsNumber (deskCashTotal c))
 unfolding deskCashTotal
-cents-numbered c = cents-by (lowest (deskCashConditions c)) _ (lowest-range 3 22 (deskCashConditions c) refl)
+cents-numbered c = cents-by (lowest (cashConditions c)) _ (lowest-range 3 22 (cashConditions c) refl)

@@ -13,7 +13,7 @@ use Rattle.rules.specs.Tests.{isRow, Condition, lowest}
 use Rattle.rules.specs.Directory.{Rows, rowsOf, accountLimit, isKind}
 use Rattle.rules.specs.Entries.{Row, csdRow, securityRow, accountRow, pairRow, linkRow, sound}
 use Rattle.rules.specs.Booking.{positionCount, cashCount, heldIn, cashOn, beyond, participants, everyAccount, sumBeyond, participantSum, cashSum, securityTotalBy, cashTotalBy}
-use Rattle.rules.specs.Calls.{Store, Call, enter, move, pay, settle, derive, misfit, coreConditions, deskConditions, outcome, desk, success, numberOf, unitsNumber, centsNumber, deskUnitsConditions, deskSecurityTotal, deskCashConditions, deskCashTotal}
+use Rattle.rules.specs.Calls.{Store, Call, enter, move, pay, settle, derive, misfit, coreConditions, deskConditions, outcome, desk, success, numberOf, unitsNumber, centsNumber, deskSecurityTotal, deskCashTotal}
 use Rattle.rules.specs.Demands.{Decides, Ruled, Totalled}
 use Rattle.rules.specs.Refusals
 use Rattle.rules.specs.Refusals.{places, Is, NoRow, Beyond, RowRefused, DeriveRefused, SettleRefused, CoreRefused, Applies, UnitsTotalRefused, CashTotalRefused}
@@ -27,6 +27,7 @@ use Rattle.rules.proofs.SoundRelation.{row-renders, says-sound}
 use Rattle.rules.proofs.LentRelation.{says-misfit}
 use Rattle.rules.proofs.MoveRelation.{move-renders, pay-renders}
 use Rattle.rules.proofs.SettleRelation.{halves-else, derive-renders, settle-renders}
+use Rattle.rules.proofs.Refusals.{unitsConditions, cashConditions}
 use Rattle.rules.proofs.Facts.{Facts}
 use Rattle.rules.proofs.Soundness.{sound-gives}
 
@@ -184,7 +185,7 @@ module _ (d : Directory) (p : List ℤ) (s : ℕ) where
       from : UnitsRefused 22 → (a : ℕ) × (a < accountLimit) × (((y : Account) × Is (rowsOf d .accounts) a y × (y .kind ≡ 0)) × Beyond (heldIn p s a))
       from (Refusals.totalBeyond a y l i k b) = (a, l, ((y, i, k), b))
 
-  units-renders : Renders UnitsRefused (deskUnitsConditions d p s) places
+  units-renders : Renders UnitsRefused (unitsConditions d p s) places
   units-renders =
       test units-lent (λ e3. test units-unsound (λ e4. skip {m = 5} (λ x. elim x [ ]) (test units-unknown (λ e6.
       skip {m = 7} (λ x. elim x [ ]) (skip {m = 8} (λ x. elim x [ ]) (skip {m = 9} (λ x. elim x [ ]) (skip {m = 10} (λ x. elim x [ ])
@@ -207,7 +208,7 @@ module _ (c : List ℤ) where
       from : CashTotalRefused c 22 → (a : ℕ) × (a < cashCount) × (Unit {0} × Beyond (cashOn c a))
       from (Refusals.cashBeyond a l b) = (a, l, (tt, b))
 
-  cash-renders : Renders (CashTotalRefused c) (deskCashConditions c) places
+  cash-renders : Renders (CashTotalRefused c) (cashConditions c) places
   cash-renders =
       test cash-lent (λ e3. skip {m = 4} (λ x. elim x [ ]) (skip {m = 5} (λ x. elim x [ ]) (skip {m = 6} (λ x. elim x [ ])
       (skip {m = 7} (λ x. elim x [ ]) (skip {m = 8} (λ x. elim x [ ]) (skip {m = 9} (λ x. elim x [ ]) (skip {m = 10} (λ x. elim x [ ])
@@ -235,8 +236,8 @@ pub totalled : Totalled
 unfolding deskSecurityTotal deskCashTotal
 totalled =
     record {
-      units = λ d p s. decides _ (sym (units-number (lowest (deskUnitsConditions d p s)) (participantSum (isKind (rowsOf d .accounts)) p s))) (units-renders d p s);
-      unitsSum = λ d p s. units-sum (lowest (deskUnitsConditions d p s)) (participantSum (isKind (rowsOf d .accounts)) p s);
-      cents = λ c. decides _ (sym (cents-number (lowest (deskCashConditions c)) (cashSum c))) (cash-renders c);
-      centsSum = λ c. cents-sum (lowest (deskCashConditions c)) (cashSum c);
+      units = λ d p s. decides _ (sym (units-number (lowest (unitsConditions d p s)) (participantSum (isKind (rowsOf d .accounts)) p s))) (units-renders d p s);
+      unitsSum = λ d p s. units-sum (lowest (unitsConditions d p s)) (participantSum (isKind (rowsOf d .accounts)) p s);
+      cents = λ c. decides _ (sym (cents-number (lowest (cashConditions c)) (cashSum c))) (cash-renders c);
+      centsSum = λ c. cents-sum (lowest (cashConditions c)) (cashSum c);
     }

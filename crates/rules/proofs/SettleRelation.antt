@@ -239,11 +239,11 @@ module _ (r : Rows) (F : Facts r) (h g : Half) where
         go true f below = rw (eqb-is lo (suc m) f) (stop (to (suc m) (Refusals.chain (apart-chain r F (h .security) (h .account) (g .account) (suc m) e))))
         go false f below =
             skip (λ q.
-                let s = chain-apart r F (h .security) (h .account) (g .account) lo (as-chain lo a (from lo (omega arith) q)) in
-                let l : s .number ≤ lo = s .least in
-                let same : unchained (suc m) ≡ unchained (s .number) = sym e ∙ s .unchained in
-                let is : suc m ≡ s .number = cc in
-                eqb-not lo (suc m) f (omega arith)) (below (eqb-not lo (suc m) f))
+            let s = chain-apart r F (h .security) (h .account) (g .account) lo (as-chain lo a (from lo (omega arith) q)) in
+            let l : s .number ≤ lo = s .least in
+            let same : unchained (suc m) ≡ unchained (s .number) = sym e ∙ s .unchained in
+            let is : suc m ≡ s .number = cc in
+            eqb-not lo (suc m) f (omega arith)) (below (eqb-not lo (suc m) f))
 
     by-chain : (cs : List Condition) → ((steps : List Step) → called ≡ chained steps → Renders Q cs (19 ∷ 20 ∷ 21 ∷ 22 ∷ [])) → (x : Chain) → called ≡ x
         → Renders Q (chainConditions x ++ cs) (14 ∷ 15 ∷ 16 ∷ 17 ∷ 18 ∷ 19 ∷ 20 ∷ 21 ∷ 22 ∷ [])

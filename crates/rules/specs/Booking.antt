@@ -256,11 +256,3 @@ securityTotalConditions k p s = 6 when not (k .security s) ∷ 22 when sumBeyond
 -- 22 of the cash total
 abbrev pub cashTotalConditions : List ℤ → List Condition
 cashTotalConditions c = 22 when sumBeyond everyAccount (cashOn c) cashCount ∷ []
-
--- the total of a security over a directory, sound or not
-unfoldable pub securityTotal : Lookups → List ℤ → ℕ → SecurityTotal
-securityTotal k p s = securityTotalBy (lowest (securityTotalConditions k p s)) (participantSum (k .kind) p s)
-
--- the total of cash over any list of balances
-unfoldable pub cashTotal : List ℤ → CashTotal
-cashTotal c = cashTotalBy (lowest (cashTotalConditions c)) (cashSum c)

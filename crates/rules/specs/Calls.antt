@@ -206,22 +206,17 @@ desk c st = outcome (lowest (deskConditions c st)) c st
 
 -- ---- the totals, which change nothing
 
--- 3, 4, 6 and 22 of the total of a security
-abbrev pub deskUnitsConditions : Directory → List ℤ → ℕ → List Condition
-deskUnitsConditions d p s =
-    3 when not (eqb (length p) positionCount) ∷ 4 when not (sound d) ∷ Booking.securityTotalConditions (ask (rowsOf d)) p s
-
--- the total of a security as the desk's software asks for it
+-- the total of a security as the desk's software asks for it: 3, 4, then 6 and 22
 unfoldable pub deskSecurityTotal : Directory → List ℤ → ℕ → SecurityTotal
-deskSecurityTotal d p s = Booking.securityTotalBy (lowest (deskUnitsConditions d p s)) (Booking.participantSum (ask (rowsOf d) .kind) p s)
+deskSecurityTotal d p s =
+    Booking.securityTotalBy
+    (lowest (3 when not (eqb (length p) positionCount) ∷ 4 when not (sound d) ∷ Booking.securityTotalConditions (ask (rowsOf d)) p s))
+    (Booking.participantSum (ask (rowsOf d) .kind) p s)
 
--- 3 and 22 of the total of cash
-abbrev pub deskCashConditions : List ℤ → List Condition
-deskCashConditions c = 3 when not (eqb (length c) cashCount) ∷ Booking.cashTotalConditions c
-
--- the total of cash
+-- the total of cash: 3, then 22
 unfoldable pub deskCashTotal : List ℤ → CashTotal
-deskCashTotal c = Booking.cashTotalBy (lowest (deskCashConditions c)) (Booking.cashSum c)
+deskCashTotal c =
+    Booking.cashTotalBy (lowest (3 when not (eqb (length c) cashCount) ∷ Booking.cashTotalConditions c)) (Booking.cashSum c)
 
 -- ---- a list of calls
 

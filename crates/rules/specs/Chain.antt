@@ -1,11 +1,10 @@
 -- The chain of document 01: its CSDs in four cases, and its steps with their accounts. Assumes nothing.
-use Prim.Native.Nat.{ℕ, zero, suc, _*_, _-_}
+use Prim.Native.Nat.{ℕ, _*_, _-_}
 use mathlib.Core.Bool.{Bool, true, not, _&&_, cond}
 use mathlib.Core.List.{List, [], _∷_, _++_, map, reverse}
 use mathlib.Core.Option.{Option, none, some}
-use lib.ListN.{take}
 use lib.Dec.{eqb}
-use Rattle.rules.specs.Types.{Pair, Step, Steps, WalkEnd, Inside, Outside, NoLink, TooLong, Verdict, TwoIssuers, TwoExternals, Apart, Join, Meeting, Issuers, Externals}
+use Rattle.rules.specs.Types.{Pair, Step, WalkEnd, Inside, Outside, NoLink, TooLong, Verdict, TwoIssuers, TwoExternals, Apart, Join, Meeting, Issuers, Externals}
 use Rattle.rules.specs.Tests.{any, find, Condition, _when_}
 use Rattle.rules.specs.Directory.{noCsd}
 use Rattle.rules.specs.Lookups.{Lookups}
@@ -23,7 +22,7 @@ pub data Route : Type 0 where
   apart : ℕ → Route
 
 -- "the two ends are judged together: inside and inside (two issuers) or outside and outside is a chain"; 14 "a side without link",
--- 15 "too long", "16, 17: D inside, R outside; the reverse"
+-- 15 "too long", 16 and 17 "D inside, R outside; the reverse"
 abbrev pub judged : WalkEnd → WalkEnd → Verdict
 judged (Inside i) (Inside j) = TwoIssuers
 judged (Inside i) (Outside y) = Apart 16
@@ -162,15 +161,6 @@ generated k = 2 * k - 2
 abbrev pub stepsOf : Chain → List Step
 stepsOf (chained ss) = ss
 stepsOf (unchained n) = []
-
--- steps as code holds them by value
-abbrev pub stepRows : Steps → List Step
-stepRows x = take (x .count) (x .rows)
-
--- a refusal of 0 says that there is a chain
-abbrev pub chainBy : ℕ → List Step → Chain
-chainBy zero ss = chained ss
-chainBy (suc n) ss = unchained (suc n)
 
 -- 14 to 19: the number that a missing chain gives
 abbrev pub chainConditions : Chain → List Condition

@@ -89,21 +89,13 @@ pub record MovedCents (payer payee m : ℕ) (before after : List ℤ) : Type 0 w
 abbrev pub Within : ℤ → Type 0
 Within z = Beyond z → ⊥
 
--- a participant account
-abbrev pub Participant : List Account → ℕ → Type 0
-Participant acc a = (x : Account) × Is acc a x × (x .kind ≡ 0)
-
--- an account of this CSD
-abbrev pub AccountOf : List Account → ℕ → ℕ → Type 0
-AccountOf acc a c = (x : Account) × Is acc a x × (x .csd ≡ c)
-
 -- "its halves agree on two participant accounts"
 pub record Agree (r : Rows) (h g : Half) : Type 0 where
-  pub deliverer : Participant (r .accounts) (h .account)
-  pub receiver : Participant (r .accounts) (g .account)
+  pub deliverer : (x : Account) × Is (r .accounts) (h .account) x × (x .kind ≡ 0)
+  pub receiver : (x : Account) × Is (r .accounts) (g .account) x × (x .kind ≡ 0)
   pub two : h .account ≢ g .account
-  pub receiverCsd : AccountOf (r .accounts) (g .account) (h .counterpart)
-  pub delivererCsd : AccountOf (r .accounts) (h .account) (g .counterpart)
+  pub receiverCsd : (x : Account) × Is (r .accounts) (g .account) x × (x .csd ≡ h .counterpart)
+  pub delivererCsd : (x : Account) × Is (r .accounts) (h .account) x × (x .csd ≡ g .counterpart)
   pub security : h .security < length (r .securities)
   pub sameSecurity : h .security ≡ g .security
   pub quantity : (1 ≤ h .quantity) × (h .quantity ≤ limit)

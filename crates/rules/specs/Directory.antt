@@ -123,7 +123,7 @@ pairOf ps i t = find (joins i t) ps
 unfoldable pub isJoined : List Pair → ℕ → ℕ → Bool
 isJoined ps i t = any (joins i t) ps
 
--- "an account is in one pair at most"; hex FFFF "never counts as already entered or shared"
+-- "an account is in one pair at most"; of hex FFFF "Neither ever counts as already entered or shared"
 unfoldable pub isPaired : List Pair → ℕ → Bool
 isPaired ps a = not (eqb a noAccount) && any (uses a) ps
 

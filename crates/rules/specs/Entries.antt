@@ -1,11 +1,11 @@
 -- The entries of document 01: the conditions that refuse a row after the rows before it, what an accepted entry changes, and soundness.
-use Prim.Native.Nat.{ℕ, zero, suc, _+_}
+use Prim.Native.Nat.{ℕ, _+_}
 use mathlib.Core.Path.{_≡_}
 use mathlib.Core.Bool.{Bool, not, _&&_, _||_, cond}
 use mathlib.Core.List.{List, [], _∷_}
 use lib.ListN.{length, set, replicate}
 use lib.Dec.{ltb, leb, eqb}
-use Rattle.rules.specs.Types.{Csd, Security, Account, Pair, Link, CsdTable, SecurityTable, AccountTable, PairTable, LinkTable, Directory, Entered, Accepted, Refused}
+use Rattle.rules.specs.Types.{Csd, Security, Account, Pair, Link, CsdTable, SecurityTable, AccountTable, PairTable, LinkTable, Directory}
 use Rattle.rules.specs.Tests.{eachAfter, isFull, Condition, _when_, lowest}
 use Rattle.rules.specs.Identifiers.{isBic, isIsin, isinChecks}
 use Rattle.rules.specs.Directory.{Rows, rowsOf, csdLimit, securityLimit, accountLimit, pairLimit, linkLimit, noCsd, noAccount, bicEntered, isinEntered}
@@ -203,15 +203,6 @@ addRow (securityRow x) d = record { csds = d .csds; securities = addSecurity (d 
 addRow (accountRow x) d = record { csds = d .csds; securities = d .securities; accounts = addAccount (d .accounts) x; pairs = d .pairs; links = d .links }
 addRow (pairRow x) d = record { csds = d .csds; securities = d .securities; accounts = d .accounts; pairs = addPair (d .pairs) x; links = d .links }
 addRow (linkRow x) d = record { csds = d .csds; securities = d .securities; accounts = d .accounts; pairs = d .pairs; links = addLink (d .links) x }
-
--- by the refusal's number, 0 for none
-abbrev pub enteredBy : ℕ → Row → Directory → Entered
-enteredBy zero x d = record { answer = Accepted; directory = addRow x d }
-enteredBy (suc n) x d = record { answer = Refused (suc n); directory = d }
-
--- an entry into a directory, sound or not: its answer, and the directory after it
-unfoldable pub enterRow : Row → Directory → Entered
-enterRow x d = enteredBy (lowest (rowConditions (rowsOf d) x)) x d
 
 -- ---- the empty directory, and soundness
 

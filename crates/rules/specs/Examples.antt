@@ -1,18 +1,20 @@
 -- 'Chains by example' of document 01 as one table, and its sample run: what the definitions are to give.
 use Prim.Native.Nat.{ℕ, _+_, _*_}
-use mathlib.Core.Bool.{Bool, cond}
+use mathlib.Core.Path.{_≡_}
+use mathlib.Core.Bool.{Bool, true, false, cond}
 use mathlib.Core.List.{List, [], _∷_, _++_, map}
 use lib.IntN.{ℤ, pos, negsuc}
 use lib.Dec.{leb}
 use lib.ListN.{length}
 use Rattle.rules.specs.Types.{Csd, Account, Pair, Link, Step, Half, Answer, Accepted, Booked}
+use Rattle.rules.specs.Identifiers.{isinSum, isinChecks, isinSumLeft}
 use Rattle.rules.specs.Directory.{Rows, noCsd, noAccount}
-use Rattle.rules.specs.Entries.{csdRow, securityRow, accountRow, pairRow, linkRow}
+use Rattle.rules.specs.Entries.{csdRow, securityRow, accountRow, pairRow, linkRow, soundRows}
 use Rattle.rules.specs.Lookups.{ask}
 use Rattle.rules.specs.Chain.{Chain, chained, unchained, chain, generated}
 use Rattle.rules.specs.Booking.{incoming, heldIn}
-use Rattle.rules.specs.Calls.{Call, enter, move, settle, Item}
-use Rattle.rules.specs.Stream.{bytes, programSteps}
+use Rattle.rules.specs.Calls.{Call, enter, move, settle, Item, run}
+use Rattle.rules.specs.Stream.{bytes, programSteps, transcript}
 
 -- ---- chains: "I, J issuers; X, Y external; → default"
 
@@ -182,14 +184,6 @@ sampleAnswers =
 unfoldable pub samplePositions : List ℤ
 samplePositions = pos 40 ∷ negsuc 39 ∷ pos 40 ∷ negsuc 99 ∷ pos 60 ∷ []
 
--- the answers of a run
-abbrev pub answersOf : List Item → List Answer
-answersOf items = map (λ (i : Item). i .answer) items
-
--- the positions of the first five accounts
-abbrev pub firstPositions : List ℤ → List ℤ
-firstPositions p = heldIn p 0 0 ∷ heldIn p 0 1 ∷ heldIn p 0 2 ∷ heldIn p 0 3 ∷ heldIn p 0 4 ∷ []
-
 -- a number below 256 in 8 bytes
 abbrev quantity : ℕ → List ℕ
 quantity q = 0 ∷ 0 ∷ 0 ∷ 0 ∷ 0 ∷ 0 ∷ 0 ∷ q ∷ []
@@ -217,3 +211,21 @@ unfoldable pub sampleOutput : List ℕ
 sampleOutput =
     bytes "1 ok\n2 ok\n3 ok\n4 ok\n5 ok\n6 ok\n7 ok\n8 ok\n9 ok\n10 ok\n11 ok\n12 ok\n"
     ++ bytes "13 booked 2\n- 1 4 2\n- 0 1 0\ntotal XS0000000009 100\ncash 0\n"
+
+-- ---- what is shown
+
+-- "Starred ones are shown of the definitions, as one collected table", each over a sound directory
+pub record Starred : Type 0 where
+  pub chains : map derived examples ≡ map (λ (e : Example). e .gives) examples
+  pub sound : map (λ (e : Example). soundRows (drawn (e .links))) examples ≡ map (λ (e : Example). true) examples
+
+-- "XS0000000009 and XS0000000017 are valid, XS0000000008 is not."; "the ISIN rule is shown once over any length"
+pub record IsinShown : Type 0 where
+  pub examples : map isinChecks (bytes "XS0000000009" ∷ bytes "XS0000000017" ∷ bytes "XS0000000008" ∷ []) ≡ true ∷ true ∷ false ∷ []
+  pub rule : (cs : List ℕ) → isinSumLeft cs ≡ isinSum cs
+
+-- the sample's answers, the positions of its five accounts, and its text
+pub record SampleShown : Type 0 where
+  pub answers : map (λ (i : Item). i .answer) (run sampleCalls .items) ≡ sampleAnswers
+  pub positions : map (heldIn (run sampleCalls .store .positions) 0) (0 ∷ 1 ∷ 2 ∷ 3 ∷ 4 ∷ []) ≡ samplePositions
+  pub text : transcript sampleInput ≡ sampleOutput

@@ -21,25 +21,18 @@ pub data Made (st : Store) : Call → Answer → Store → Type 0 where
       → (r ≡ movementOn (st .directory) (st .positions) w a s q .answer) × (p ≡ movementOn (st .directory) (st .positions) w a s q .store .positions)
       → Made st (move w a s q) r (holding (st .directory) p (st .cash))
   -- pay_in, pay_out
-  paid : (w : Way) (a m : ℕ) (r : Answer) (c : List ℤ)
-      → (r ≡ paymentOn (st .directory) (st .cash) w a m .answer) × (c ≡ paymentOn (st .directory) (st .cash) w a m .store .cash)
+  paid : (w : Way) (a m : ℕ) (r : Answer) (c : List ℤ) → (r ≡ paymentOn (st .directory) (st .cash) w a m .answer) × (c ≡ paymentOn (st .directory) (st .cash) w a m .store .cash)
       → Made st (pay w a m) r (holding (st .directory) (st .positions) c)
   -- settle
-  settled : (h g : Half) (lent : List Step) (r : Answer) (p c : List ℤ) (steps : List Step)
-      → (r ≡ settlementOn (st .directory) (st .positions) (st .cash) lent h g .answer)
-      × (p ≡ settlementOn (st .directory) (st .positions) (st .cash) lent h g .store .positions)
-      × (c ≡ settlementOn (st .directory) (st .positions) (st .cash) lent h g .store .cash)
-      × (steps ≡ settlementOn (st .directory) (st .positions) (st .cash) lent h g .steps)
-      → Made st (settle h g lent) r (holding (st .directory) p c)
+  settled : (h g : Half) (lent : List Step) (r : Answer) (p c : List ℤ) (steps : List Step) → (r ≡ settlementOn (st .directory) (st .positions) (st .cash) lent h g .answer)
+      × (p ≡ settlementOn (st .directory) (st .positions) (st .cash) lent h g .store .positions) × (c ≡ settlementOn (st .directory) (st .positions) (st .cash) lent h g .store .cash)
+      × (steps ≡ settlementOn (st .directory) (st .positions) (st .cash) lent h g .steps) → Made st (settle h g lent) r (holding (st .directory) p c)
   -- settle_by_value
-  settledByValue : (h g : Half) (r : Reply) (p c : List ℤ)
-      → (r ≡ replyOf (settlementOn (st .directory) (st .positions) (st .cash) (blanks stepLimit) h g))
+  settledByValue : (h g : Half) (r : Reply) (p c : List ℤ) → (r ≡ replyOf (settlementOn (st .directory) (st .positions) (st .cash) (blanks stepLimit) h g))
       × (p ≡ settlementOn (st .directory) (st .positions) (st .cash) (blanks stepLimit) h g .store .positions)
-      × (c ≡ settlementOn (st .directory) (st .positions) (st .cash) (blanks stepLimit) h g .store .cash)
-      → Made st (settle h g (blanks stepLimit)) (r .answer) (holding (st .directory) p c)
+      × (c ≡ settlementOn (st .directory) (st .positions) (st .cash) (blanks stepLimit) h g .store .cash) → Made st (settle h g (blanks stepLimit)) (r .answer) (holding (st .directory) p c)
   -- derive
-  derived : (h g : Half) (lent : List Step) (r : Answer) (steps : List Step)
-      → (r ≡ derivationOn (st .directory) lent h g .answer) × (steps ≡ derivationOn (st .directory) lent h g .steps)
+  derived : (h g : Half) (lent : List Step) (r : Answer) (steps : List Step) → (r ≡ derivationOn (st .directory) lent h g .answer) × (steps ≡ derivationOn (st .directory) lent h g .steps)
       → Made st (derive h g lent) r st
   -- derive_by_value
   derivedByValue : (h g : Half) (r : Reply) → r ≡ replyOf (derivationOn (st .directory) (blanks stepLimit) h g) → Made st (derive h g (blanks stepLimit)) (r .answer) st

@@ -4,7 +4,7 @@ use Prim.Native.Nat.{ℕ}
 use mathlib.Core.List.{List, []}
 use lib.IntN.{ℤ}
 use lib.ListN.{length, replicate, take}
-use Rattle.rules.specs.Types.{Directory, Half, Step, Steps, Reply, Refused, Entered}
+use Rattle.rules.specs.Types.{Directory, Half, Step, Steps, Reply, Entered}
 use Rattle.rules.specs.Entries.{Row}
 use Rattle.rules.specs.Chain.{step, stepLimit}
 use Rattle.rules.specs.Booking.{Way}
@@ -47,10 +47,6 @@ blanks n = replicate n (step 0 0 0)
 -- steps by value: their number, and their rows on 16 blank ones
 abbrev pub byValue : List Step → Steps
 byValue xs = record { count = length xs; rows = written xs (blanks stepLimit) }
-
--- a refusal has no step
-abbrev pub refusal : ℕ → Reply
-refusal n = record { answer = Refused n; steps = byValue [] }
 
 -- an outcome by value: its answer, and the K steps that a lent list then starts with
 abbrev pub replyOf : Outcome → Reply

@@ -73,13 +73,9 @@ Digit c = (48 ≤ c) × (c ≤ 57)
 abbrev pub CapitalOrDigit : ℕ → Type 0
 CapitalOrDigit c = Capital c ⊎ Digit c
 
--- "Two BICs are the same when their first 8 bytes are."
-abbrev pub SameBic : List ℕ → List ℕ → Type 0
-SameBic a b = (k : ℕ) → k < 8 → byteAt a k ≡ byteAt b k
-
--- two ISINs are the same when all 12 bytes are
-abbrev pub SameIsin : List ℕ → List ℕ → Type 0
-SameIsin a b = (k : ℕ) → k < 12 → byteAt a k ≡ byteAt b k
+-- the first n bytes are the same
+abbrev pub Same : ℕ → List ℕ → List ℕ → Type 0
+Same n a b = (k : ℕ) → k < n → byteAt a k ≡ byteAt b k
 
 -- characters and the digits that they give: "Letters become 10 to 35, each written as two digits"
 pub data Spelt : List ℕ → List ℕ → Type 0 where
@@ -100,7 +96,8 @@ pub data CsdRefused (cs : List Csd) (x : Csd) : ℕ → Type 0 where
   csdsFull : csdLimit ≤ length cs → CsdRefused cs x 5
   neitherType : x .external ≢ 0 → x .external ≢ 1 → CsdRefused cs x 7
   noBic : (k : ℕ) → k < 11 → (CapitalOrDigit (byteAt (x .bic) k) → ⊥) → CsdRefused cs x 7
-  bicEntered : (y : Csd) → List·Memᴰ y cs → SameBic (y .bic) (x .bic) → CsdRefused cs x 9
+  -- "Two BICs are the same when their first 8 bytes are."
+  bicEntered : (y : Csd) → List·Memᴰ y cs → Same 8 (y .bic) (x .bic) → CsdRefused cs x 9
 
 -- 02: a security
 pub data SecurityRefused (ss : List Security) (x : Security) : ℕ → Type 0 where
@@ -109,9 +106,8 @@ pub data SecurityRefused (ss : List Security) (x : Security) : ℕ → Type 0 wh
   noCapitalOrDigit : (k : ℕ) → 2 ≤ k → k < 11 → (CapitalOrDigit (byteAt (x .isin) k) → ⊥) → SecurityRefused ss x 7
   noCheckDigit : (Digit (byteAt (x .isin) 11) → ⊥) → SecurityRefused ss x 7
   -- "with the check digit the sum is a multiple of 10"
-  wrongCheckDigit : (ds : List ℕ) (sum check : ℕ) → Spelt (take 11 (x .isin)) ds → Adds (reverse ds) sum → byteAt (x .isin) 11 ≡ 48 + check
-      → ((m : ℕ) → sum + check ≢ 10 * m) → SecurityRefused ss x 8
-  isinEntered : (y : Security) → List·Memᴰ y ss → SameIsin (y .isin) (x .isin) → SecurityRefused ss x 9
+  wrongCheckDigit : (ds : List ℕ) (sum check : ℕ) → Spelt (take 11 (x .isin)) ds → Adds (reverse ds) sum → byteAt (x .isin) 11 ≡ 48 + check → ((m : ℕ) → sum + check ≢ 10 * m) → SecurityRefused ss x 8
+  isinEntered : (y : Security) → List·Memᴰ y ss → Same 12 (y .isin) (x .isin) → SecurityRefused ss x 9
 
 -- 03: an account
 pub data AccountRefused (cs : List Csd) (acc : List Account) (x : Account) : ℕ → Type 0 where
@@ -120,7 +116,7 @@ pub data AccountRefused (cs : List Csd) (acc : List Account) (x : Account) : ℕ
   noKind : 4 < x .kind → AccountRefused cs acc x 7
   homeExternal : External cs (x .csd) → AccountRefused cs acc x 10
 
--- the account is in a pair; hex FFFF "never counts as already entered or shared"
+-- the account is in a pair; of hex FFFF "Neither ever counts as already entered or shared"
 pub data Paired (ps : List Pair) (a : ℕ) : Type 0 where
   asMirror : (p : Pair) → List·Memᴰ p ps → p .mirror ≡ a → a ≢ noAccount → Paired ps a
   asOmnibus : (p : Pair) → List·Memᴰ p ps → p .omnibus ≡ a → a ≢ noAccount → Paired ps a
@@ -252,10 +248,8 @@ pub data MoveRefused (r : Rows) (p : List ℤ) (w : Way) (a s q : ℕ) : ℕ →
       → ((l : Link) → DefaultOf (r .csds) (r .links) s (homeOf (r .accounts) a) l → InT2S (r .csds) (l .technical)) → MoveRefused r p w a s q 19
   noPair : NoIssuer (r .csds) (r .links) s (homeOf (r .accounts) a) → (l : Link) → DefaultOf (r .csds) (r .links) s (homeOf (r .accounts) a) l
       → External (r .csds) (l .technical) → NoPair (r .pairs) (homeOf (r .accounts) a) (l .technical) → MoveRefused r p w a s q 19
-  moveShort : (u : ℕ) → ContraOf r s (homeOf (r .accounts) a) u
-      → Short (r .accounts) p s q (moveStep w (homeOf (r .accounts) a) a u) → MoveRefused r p w a s q 20
-  moveBeyond : (u : ℕ) → ContraOf r s (homeOf (r .accounts) a) u
-      → Exceeds p s q (moveStep w (homeOf (r .accounts) a) a u) → MoveRefused r p w a s q 22
+  moveShort : (u : ℕ) → ContraOf r s (homeOf (r .accounts) a) u → Short (r .accounts) p s q (moveStep w (homeOf (r .accounts) a) a u) → MoveRefused r p w a s q 20
+  moveBeyond : (u : ℕ) → ContraOf r s (homeOf (r .accounts) a) u → Exceeds p s q (moveStep w (homeOf (r .accounts) a) a u) → MoveRefused r p w a s q 22
 
 -- 08, 09: an amount m paid in or out on the account a
 pub data PayRefused (r : Rows) (c : List ℤ) (w : Way) (a m : ℕ) : ℕ → Type 0 where
@@ -312,10 +306,8 @@ pub data ChainRefused (r : Rows) (s D R : ℕ) : ℕ → Type 0 where
   deliveringTooLong : Unjoined r s D R → TooLong r s D → ChainRefused r s D R 15
   receivingTooLong : Unjoined r s D R → TooLong r s R → ChainRefused r s D R 15
   -- "D inside, R outside; the reverse"
-  insideOutside : Unjoined r s D R → (up down : List ℕ) (i y : ℕ) → DefaultWalk (r .csds) (r .links) s D up (Inside i)
-      → DefaultWalk (r .csds) (r .links) s R down (Outside y) → ChainRefused r s D R 16
-  outsideInside : Unjoined r s D R → (up down : List ℕ) (x j : ℕ) → DefaultWalk (r .csds) (r .links) s D up (Outside x)
-      → DefaultWalk (r .csds) (r .links) s R down (Inside j) → ChainRefused r s D R 17
+  insideOutside : Unjoined r s D R → (up down : List ℕ) (i y : ℕ) → DefaultWalk (r .csds) (r .links) s D up (Inside i) → DefaultWalk (r .csds) (r .links) s R down (Outside y) → ChainRefused r s D R 16
+  outsideInside : Unjoined r s D R → (up down : List ℕ) (x j : ℕ) → DefaultWalk (r .csds) (r .links) s D up (Outside x) → DefaultWalk (r .csds) (r .links) s R down (Inside j) → ChainRefused r s D R 17
   -- "chain needs a pair not entered"
   upUnpaired : (j : Join) (up down : List ℕ) → Joins (r .csds) (r .links) s D R j up down → Unpaired (r .pairs) up → ChainRefused r s D R 18
   downUnpaired : (j : Join) (up down : List ℕ) → Joins (r .csds) (r .links) s D R j up down → Unpaired (r .pairs) down → ChainRefused r s D R 18
@@ -331,8 +323,7 @@ pub data SettleRefused (r : Rows) (p c : List ℤ) (h g : Half) : ℕ → Type 0
   securitiesShort : (steps : List Step) (x : Step) → ChainIs r (h .security) (h .account) (g .account) steps → List·Memᴰ x steps
       → Short (r .accounts) p (h .security) (h .quantity) x → SettleRefused r p c h g 20
   cashShort : h .amount ≢ 0 → cashOn c (g .account) <ℤ pos (h .amount) → SettleRefused r p c h g 21
-  securitiesBeyond : (steps : List Step) (x : Step) → ChainIs r (h .security) (h .account) (g .account) steps → List·Memᴰ x steps
-      → Exceeds p (h .security) (h .quantity) x → SettleRefused r p c h g 22
+  securitiesBeyond : (steps : List Step) (x : Step) → ChainIs r (h .security) (h .account) (g .account) steps → List·Memᴰ x steps → Exceeds p (h .security) (h .quantity) x → SettleRefused r p c h g 22
   payerBeyond : h .amount ≢ 0 → Beyond (cashOn c (g .account) -ℤ pos (h .amount)) → SettleRefused r p c h g 22
   payeeBeyond : h .amount ≢ 0 → Beyond (cashOn c (h .account) +ℤ pos (h .amount)) → SettleRefused r p c h g 22
 

@@ -12,14 +12,14 @@ use Rattle.rules.specs.declared.Half.{Half}
 use Rattle.rules.specs.declared.Step.{Step}
 use Rattle.rules.specs.Tests.{lowest}
 use Rattle.rules.specs.Directory.{rowsOf}
-use Rattle.rules.specs.Entries.{Row, rowConditions, enteredBy, enterRow}
+use Rattle.rules.specs.Entries.{Row, rowConditions}
 use Rattle.rules.specs.Lookups.{ask}
 use Rattle.rules.specs.Booking.{Way}
 use Rattle.rules.specs.Calls.{Store, Call, enter, move, pay, settle, derive, Outcome, outcome, success, core, coreConditions, countOf, written}
 use Rattle.rules.specs.Stream.{programSteps}
 use Rattle.index.specs.Asked.{asked}
 use Rattle.index.proofs.Answers.{answers}
-use Rattle.entries.specs.Entered.{Kept, Keeps, refusalIn, withRowIn, answered, left, keptBy, enteredIn}
+use Rattle.entries.specs.Entered.{Kept, Keeps, refusalIn, withRowIn, answered, left, keptBy, enteredIn, enteredBy, enterRow}
 use Rattle.entries.proofs.Keeping.{keeps-entered, answer-is}
 use Rattle.chain.specs.StepList.{stepsIn}
 use Rattle.chain.specs.Derivation.{derived, derivedInto, DerivedIn, Derives}

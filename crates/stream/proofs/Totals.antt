@@ -15,7 +15,7 @@ use Rattle.rules.specs.declared.Security.{Security}
 use Rattle.rules.specs.declared.Units.{Units}
 use Rattle.rules.specs.Tests.{isRow}
 use Rattle.rules.specs.Directory.{Rows, rowsOf, securityLimit, accountLimit, isKind}
-use Rattle.rules.specs.Booking.{beyond, heldIn, cashOn, sumBeyond, participants, everyAccount, cashCount, participantSum, securityTotal, cashTotal}
+use Rattle.rules.specs.Booking.{beyond, heldIn, cashOn, sumBeyond, participants, everyAccount, cashCount, participantSum}
 use Rattle.rules.specs.Calls.{Store}
 use Rattle.rules.proofs.Permissions.{NotBeyond}
 use Rattle.rules.specs.Stream.{totalLine, totalLines, ending}
@@ -31,6 +31,7 @@ use Rattle.entries.proofs.Identified.{isin-shown}
 use Rattle.stream.specs.Obeyed.{Held, Holds}
 use Rattle.stream.specs.Ending.{unitsIn, centsIn, totalIn, totalsIn, securitiesIn, endingIn, Totalled}
 use Rattle.stream.proofs.Keeping.{Bounded}
+use Rattle.booking.specs.Sums.{securityTotal, cashTotal}
 
 -- ---- the lines of a directory's securities
 

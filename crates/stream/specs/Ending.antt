@@ -12,13 +12,14 @@ use Rattle.rules.specs.declared.CashTotal.{CashTotal}
 use Rattle.rules.specs.declared.CashTotal.the-variants.{SumCents, NoCents}
 use Rattle.rules.specs.Directory.{rowsOf, securityLimit}
 use Rattle.rules.specs.Lookups.{ask}
-use Rattle.rules.specs.Booking.{units, cents, participantSum, cashSum, securityTotal, cashTotal}
+use Rattle.rules.specs.Booking.{units, cents, participantSum, cashSum}
 use Rattle.rules.specs.Calls.{Store}
 use Rattle.rules.specs.Stream.{totalLine, cashLine}
 use Rattle.index.specs.Index.{securityCount}
 use Rattle.index.specs.Asked.{read, asked}
 use Rattle.entries.specs.Names.{isinOf}
 use Rattle.entries.specs.Entered.{Kept}
+use Rattle.booking.specs.Sums.{securityTotal, cashTotal}
 
 -- ---- by what is held
 

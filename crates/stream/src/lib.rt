@@ -20,13 +20,13 @@ use text::lines::put_total;
 use text::pieces::put_word;
 use turns::take_turn;
 ghost use mathlib.Core.Path.{_≡_};
-ghost use Rattle.rules.specs.Booking.{securityTotal, cashTotal};
 ghost use Rattle.rules.specs.Stream.{transcript};
 ghost use Rattle.index.specs.Asked.{asked};
 ghost use Rattle.text.specs.Appended.{Appended};
 ghost use Rattle.stream.specs.Obeyed.{keptIn};
 ghost use Rattle.stream.specs.Ending.{unitsIn, centsIn, totalsIn, securitiesIn, endingIn};
 ghost use Rattle.rules.specs.Stream.{Printed};
+ghost use Rattle.booking.specs.Sums.{securityTotal, cashTotal};
 
 pub mod commands; // commands.rt: one command's operands decoded, and its call made
 pub mod turns; // turns.rt: the command at a place, and its lines

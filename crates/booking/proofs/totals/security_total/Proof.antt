@@ -1,9 +1,9 @@
 -- The security is entered, or the total is 6.
 use borrow.Author.Needs.{needs}
 use mathlib.Core.Path.{sym, _∙_}
-use Rattle.rules.specs.Booking.{securityTotal}
 use Rattle.booking.proofs.totals.security_total.Statement.{statement}
 use Rattle.booking.proofs.totals.security_total.Tie as tie
+use Rattle.booking.specs.Sums.{securityTotal}
 
 is-security-requires : tie.Need-is-security-requires
 is-security-requires c κs = search needs

@@ -40,7 +40,6 @@ use denote.Triple.Walked.{says, needs, Stays, stay-none, gave-slice, walkOf, goe
 use denote.Exit.{yes}
 use Rattle.rules.specs.declared.Step.{Step}
 use Rattle.rules.specs.declared.Reply.{Reply}
-use Rattle.rules.specs.Chain.{stepRows}
 use Rattle.rules.specs.Calls.{written}
 use Rattle.rules.proofs.Step as T
 use Rattle.rules.proofs.Steps as K
@@ -58,6 +57,7 @@ use Rattle.desk.proofs.chaining.finish as f
 use Rattle.desk.proofs.chaining.finish.Statement as stated
 use Rattle.desk.proofs.chaining.finish.Code as code
 use Rattle.desk.proofs.chaining.finish.Code.Mir as mir′
+use Rattle.desk.specs.Replies.{stepRows}
 
 abbrev stayed : Stays (f.ended .signature .params) (f.ended .kept)
 stayed = (gave-slice (0 ∷ []) tt (plain (λ _. T.the-row)), (stay-none (λ _. O.the-row) yes, tt))
