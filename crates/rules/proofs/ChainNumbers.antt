@@ -1,7 +1,6 @@
 -- The numbers 14 to 18: the definitions give no chain exactly where one of the relation's propositions holds, and then the first of them.
 use mathlib.Core.Path.{_≡_, refl, sym, ap, _∙_}
 use mathlib.Core.Logic.{_≢_, _⊎_, inl, inr}
-use mathlib.Core.Bool.{false}
 use mathlib.Core.List.{List, [], _∷_}
 use mathlib.Core.Option.{Option, none, some}
 use Prim.Native.Nat.{ℕ, _≤_}
@@ -12,13 +11,13 @@ use Rattle.rules.specs.Directory.{Rows, pairOf}
 use Rattle.rules.specs.Lookups.{homeOf, ask}
 use Rattle.rules.specs.Walks.{Walk, defaultWalk}
 use Rattle.rules.specs.Chain
-use Rattle.rules.specs.Chain.{Route, sides, apart, judged, joinedBy, route, Climb, climbed, unpaired, step, stepUp, over, climb, lastOf, Chain, chained, unchained, linkUp, along, chain}
+use Rattle.rules.specs.Chain.{Route, sides, apart, judged, joinedBy, route, Climb, climbed, unpaired, step, stepUp, over, climb, lastOf, Chain, unchained, linkUp, along, chain}
 use Rattle.rules.specs.Relations.{Walks, endsOutside, endsInside, endsWithoutLink, goesOn, DefaultWalk, Joins}
 use Rattle.rules.specs.Refusals
-use Rattle.rules.specs.Refusals.{NoPair, Unjoined, TooLong, Unpaired, between, above, ChainRefused}
+use Rattle.rules.specs.Refusals.{Unjoined, TooLong, Unpaired, between, above, ChainRefused}
 use Rattle.rules.proofs.Basics.{impossible, eqb-false}
 use Rattle.rules.proofs.Facts.{Facts}
-use Rattle.rules.proofs.Pairs.{found-pair, no-pair, pair-none}
+use Rattle.rules.proofs.Pairs.{no-pair, pair-none}
 use Rattle.rules.proofs.WalkRelation.{default-walk, walk-ends}
 use Rattle.rules.proofs.Routing.{Fourth, Routed, oneCsd, sharing, directed, reversed, twoIssuers, twoExternals, refused, routed}
 use Rattle.rules.proofs.MeetingRelation.{no-meeting, none-shared}

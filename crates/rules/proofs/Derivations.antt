@@ -1,5 +1,5 @@
 -- Demand 2, the chain: once nothing before 14 applies, the chain alone decides a derivation, and it is the one that the rules give.
-use mathlib.Core.Path.{_≡_, refl, sym, ap, _∙_}
+use mathlib.Core.Path.{_≡_, sym, ap, _∙_}
 use mathlib.Core.Bool.{not}
 use mathlib.Core.List.{List, _∷_}
 use Prim.Native.Nat.{ℕ, _≤_}

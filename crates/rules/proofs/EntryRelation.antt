@@ -1,24 +1,24 @@
 -- The conditions of the five entries render the relations: each test says its number's proposition, once those before it fail.
-use mathlib.Core.Path.{_≡_, refl}
+use mathlib.Core.Path.{_≡_}
 use mathlib.Core.Logic.{_≢_, _⊎_, inl, inr}
-use mathlib.Core.Bool.{Bool, true, false, not, _&&_, _||_, cond}
+use mathlib.Core.Bool.{false, not, _||_}
 use mathlib.Core.List.{List, [], _∷_, List·Memᴰ}
-use Prim.Native.Nat.{ℕ, zero, suc, _+_, _-_, _≤_, _<_}
+use Prim.Native.Nat.{ℕ, suc, _+_, _-_, _≤_, _<_}
 use native.Mathlib.Omega.{arith}
-use lib.Dec.{eqb, ltb}
+use lib.Dec.{ltb}
 use lib.ListN.{length}
 use Rattle.rules.specs.Types.{Csd, Security, Account, Pair, Link}
 use Rattle.rules.specs.Tests.{isRow, isFull}
 use Rattle.rules.specs.Identifiers.{byteAt, isBic, isIsin, isinChecks}
-use Rattle.rules.specs.Directory.{Rows, csdLimit, securityLimit, accountLimit, pairLimit, linkLimit, noCsd, noAccount, external, isKind, inBooks, isJoined, isPaired, hasLink, hasIssuer, hasInvestor, hasLinkTo, bicEntered, isinEntered}
+use Rattle.rules.specs.Directory.{csdLimit, securityLimit, accountLimit, external, bicEntered, isinEntered}
 use Rattle.rules.specs.Lookups.{ask}
-use Rattle.rules.specs.Entries.{Row, csdRow, securityRow, accountRow, pairRow, linkRow, csdConditions, securityConditions, accountConditions, pairConditions, linkConditions, rowConditions}
+use Rattle.rules.specs.Entries.{csdConditions, securityConditions, accountConditions}
 use Rattle.rules.specs.Refusals
-use Rattle.rules.specs.Refusals.{Is, NoRow, External, InT2S, Capital, Digit, CapitalOrDigit, Paired, Linked, CsdRefused, SecurityRefused, AccountRefused, PairRefused, LinkRefused, RowRefused}
-use Rattle.rules.proofs.Basics.{unnot, unnot-false, or-none, or-cases}
-use Rattle.rules.proofs.Reflection.{Says, says-as, says-not, says-or, says-and, says-cond, says-eq, says-ne, says-lt, denies}
+use Rattle.rules.specs.Refusals.{NoRow, External, Capital, Digit, CapitalOrDigit, CsdRefused, SecurityRefused, AccountRefused}
+use Rattle.rules.proofs.Basics.{unnot-false}
+use Rattle.rules.proofs.Reflection.{Says, says-as, says-or, says-lt}
 use Rattle.rules.proofs.Places.{Renders, end, skip, test}
-use Rattle.rules.proofs.RowTests.{says-no-row, says-full, known, says-external, says-other-account, says-paired, says-joined, says-any-link, says-issuer, says-investor, says-link-to}
+use Rattle.rules.proofs.RowTests.{says-no-row, says-full, says-external}
 use Rattle.rules.proofs.IdentifierRelation.{says-no-bic, says-bic-entered, says-no-isin, says-isin-entered, Wrong, says-wrong}
 
 -- the places of an entry, and those behind them

@@ -1,7 +1,7 @@
 -- The examples of document 01, each by computing the definitions.
 use mathlib.Core.Path.{_≡_, refl}
-use mathlib.Core.Bool.{true, false}
-use mathlib.Core.List.{[], _∷_, map}
+use mathlib.Core.Bool.{true}
+use mathlib.Core.List.{map}
 use Rattle.rules.specs.Tests.{isRow, isFull}
 use Rattle.rules.specs.Identifiers.{isBic, sameBic, isIsin, sameIsin, spread, alternating, isinSum, isinChecks}
 use Rattle.rules.specs.Directory
@@ -12,7 +12,6 @@ use Rattle.rules.specs.Chain
 use Rattle.rules.specs.Booking
 use Rattle.rules.specs.Calls
 use Rattle.rules.specs.Stream
-use Rattle.rules.specs.Stream.{bytes}
 use Rattle.rules.proofs.Identifiers.{left-is-right}
 use Rattle.rules.specs.Examples.{Example, examples, drawn, derived, sampleCalls, sampleAnswers, samplePositions, sampleInput, sampleOutput, Starred, IsinShown, SampleShown}
 

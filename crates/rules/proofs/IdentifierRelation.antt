@@ -1,22 +1,22 @@
 -- BIC and ISIN: the tests of the definitions say what the relations say of their bytes, and the check digit's sum is the one added up from
 -- the right.
-use mathlib.Core.Path.{_≡_, refl, sym, ap, _∙_}
+use mathlib.Core.Path.{_≡_, refl, ap, _∙_}
 use mathlib.Core.Logic.{_≢_, _⊎_, inl, inr}
-use mathlib.Core.Bool.{Bool, true, false, not, _&&_, _||_, cond}
+use mathlib.Core.Bool.{Bool, true, false, not, _&&_, cond}
 use mathlib.Core.List.{List, [], _∷_, _++_, reverse, List·Memᴰ}
 use Prim.Native.Nat.{ℕ, zero, suc, _+_, _*_, _-_, _/_, _%_, _≤_, _<_}
 use native.Mathlib.Omega.{arith}
 use lib.Dec.{eqb, leb}
-use lib.ListN.{take, getD}
+use lib.ListN.{take}
 use Rattle.rules.specs.Types.{Csd, Security}
-use Rattle.rules.specs.Tests.{any, allBelow}
-use Rattle.rules.specs.Identifiers.{capital, digitsOf, capitalOrDigit, byteAt, isBic, sameBic, isIsin, sameIsin, spread, doubled, alternating, isinSum, isinChecks}
+use Rattle.rules.specs.Tests.{allBelow}
+use Rattle.rules.specs.Identifiers.{capital, capitalOrDigit, byteAt, isBic, sameBic, isIsin, sameIsin, spread, doubled, alternating, isinSum, isinChecks}
 use Rattle.rules.specs.Identifiers
 use Rattle.rules.specs.Directory.{bicEntered, isinEntered}
 use Rattle.rules.specs.Refusals.{Capital, Digit, CapitalOrDigit, Same, Spelt, Adds, two}
 use Rattle.rules.specs.Refusals
-use Rattle.rules.proofs.Basics.{clash, and-both, eqb-is, eqb-true}
-use Rattle.rules.proofs.Reflection.{Says, says-as, says-not, says-or, says-and, says-not-and, says-eq, says-le, says-any, says-below, says-not-below, denied}
+use Rattle.rules.proofs.Basics.{clash, and-both}
+use Rattle.rules.proofs.Reflection.{Says, says-not, says-or, says-and, says-not-and, says-eq, says-le, says-any, says-below, says-not-below, denied}
 
 -- ---- single bytes
 says-capital : (c : ℕ) → Says (Capital c) (capital c)

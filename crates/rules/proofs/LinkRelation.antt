@@ -1,15 +1,15 @@
 -- The conditions of a link's entry render the relation.
-use mathlib.Core.Path.{_≡_, refl}
+use mathlib.Core.Path.{_≡_}
 use mathlib.Core.Logic.{_≢_, _⊎_, inl, inr}
 use mathlib.Core.Bool.{Bool, true, false, not, _&&_, _||_, cond}
-use mathlib.Core.List.{List, [], _∷_, List·Memᴰ}
-use Prim.Native.Nat.{ℕ, zero, suc, _≤_, _<_}
+use mathlib.Core.List.{List, [], _∷_}
+use Prim.Native.Nat.{ℕ, _≤_}
 use native.Mathlib.Omega.{arith}
 use lib.Dec.{eqb, ltb}
 use lib.ListN.{length}
 use Rattle.rules.specs.Types.{Csd, Security, Account, Pair, Link}
 use Rattle.rules.specs.Tests.{isRow, isFull}
-use Rattle.rules.specs.Directory.{Rows, linkLimit, noCsd, noAccount, external, isKind, inBooks, hasLink, hasIssuer, hasInvestor, hasLinkTo}
+use Rattle.rules.specs.Directory.{Rows, linkLimit, noCsd, noAccount, external, isKind, inBooks, hasLink, hasIssuer, hasInvestor}
 use Rattle.rules.specs.Lookups.{ask}
 use Rattle.rules.specs.Entries.{technicalUnknown, accountUnknown, technicalEntered, wrongIssuance, issuerBroken, flagBroken, alternativeOutside, investorBroken, linkUnknown, linkConditions}
 use Rattle.rules.specs.Relations.{IssuerOf, LinkTo}
@@ -17,8 +17,8 @@ use Rattle.rules.specs.Refusals
 use Rattle.rules.specs.Refusals.{Is, NoRow, External, InT2S, Linked, LinkRefused}
 use Rattle.rules.proofs.Basics.{and-both, and-true, and-first, or-none, or-right, eqb-is, eqb-true, ltb-not}
 use Rattle.rules.proofs.Several.{none-hold}
-use Rattle.rules.proofs.Reflection.{Says, says-as, says-not, says-or, says-and, says-cond, says-eq, says-ne, denies}
-use Rattle.rules.proofs.Places.{Renders, end, skip, test}
+use Rattle.rules.proofs.Reflection.{Says, says-as, says-not, says-or, says-and, says-cond, says-eq, says-ne}
+use Rattle.rules.proofs.Places.{Renders, skip, test}
 use Rattle.rules.proofs.RowTests.{says-no-row, says-full, known, says-external, says-other-account, says-any-link, says-issuer, says-investor, says-link-to}
 use Rattle.rules.proofs.EntryRelation.{entryPlaces, behind, says-neither}
 

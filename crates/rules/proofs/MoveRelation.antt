@@ -1,10 +1,10 @@
 -- The conditions of bring-ins, take-outs, pay-ins and pay-outs render the relations over a sound directory.
-use mathlib.Core.Path.{_≡_, refl, sym, ap, _∙_}
+use mathlib.Core.Path.{_≡_, refl, sym, _∙_}
 use mathlib.Core.Logic.{_≢_, _⊎_, inl, inr}
 use mathlib.Core.Bool.{Bool, true, false, not, _||_, cond, true≢false}
 use mathlib.Core.List.{List, [], _∷_, _++_, List·Memᴰ, List·Memᴰ·head, List·Memᴰ·eq-of-singleton}
 use mathlib.Core.Option.{Option, none, some}
-use Prim.Native.Nat.{ℕ, zero, suc, _<_}
+use Prim.Native.Nat.{ℕ, _<_}
 use lib.IntN.{ℤ, pos, _+ℤ_}
 use lib.Signed.{_<ℤ_, ltZ}
 use lib.Dec.{eqb}
@@ -12,12 +12,12 @@ use Rattle.rules.specs.Types.{Account, Pair, Link, Step}
 use Rattle.rules.specs.Tests.{isRow, Condition, _when_}
 use Rattle.rules.specs.Directory.{Rows, external, isKind, pairOf, hasIssuer, issuerLink, defaultLink}
 use Rattle.rules.specs.Lookups.{technicalOf, accountOf, issuance, homeOf, ask}
-use Rattle.rules.specs.Chain.{Chain, chained, unchained, stepsOf, chainConditions}
-use Rattle.rules.specs.Booking.{Way, incoming, outgoing, limit, mirrorOf, interCsd, contra, moveStep, moveBy, moveChain, moveConditions, unitsShort, unitsBeyond, outOfRange, payment, payShort, payConditions, cashShort, cashBeyond, cashOn, beyond}
-use Rattle.rules.specs.Relations.{IssuerOf, DefaultOf, NoIssuer}
+use Rattle.rules.specs.Chain.{Chain, stepsOf, chainConditions}
+use Rattle.rules.specs.Booking.{Way, incoming, outgoing, limit, mirrorOf, interCsd, contra, moveStep, moveBy, moveChain, moveConditions, unitsShort, unitsBeyond, outOfRange, payment, payShort, payConditions, cashShort, cashBeyond, cashOn}
+use Rattle.rules.specs.Relations.{DefaultOf, NoIssuer}
 use Rattle.rules.specs.Refusals
 use Rattle.rules.specs.Refusals.{Is, NoRow, External, NoPair, Beyond, Short, Exceeds, ContraOf, MoveRefused, PayRefused}
-use Rattle.rules.proofs.Basics.{impossible, clash, or-none, and-true, and-both}
+use Rattle.rules.proofs.Basics.{impossible, clash, or-none}
 use Rattle.rules.proofs.Reflection.{Says, says-as, says-or, says-and, says-ne, denies, denied}
 use Rattle.rules.proofs.Places.{Renders, end, skip, test, stop}
 use Rattle.rules.proofs.RowTests.{says-no-row, known, says-external, says-other-kind}

@@ -1,11 +1,10 @@
 -- The conditions of a pair's entry render the relation.
 use mathlib.Core.Path.{_≡_, refl}
 use mathlib.Core.Logic.{_≢_, _⊎_, inl, inr}
-use mathlib.Core.Bool.{Bool, true, false, not, _&&_, _||_, cond}
+use mathlib.Core.Bool.{Bool, true, false, not, _&&_, _||_}
 use mathlib.Core.List.{List, [], _∷_, List·Memᴰ}
-use Prim.Native.Nat.{ℕ, zero, suc, _≤_, _<_}
-use native.Mathlib.Omega.{arith}
-use lib.Dec.{eqb, ltb}
+use Prim.Native.Nat.{ℕ, _≤_}
+use lib.Dec.{eqb}
 use lib.ListN.{length}
 use Rattle.rules.specs.Types.{Csd, Security, Account, Pair, Link}
 use Rattle.rules.specs.Tests.{isRow, isFull}
@@ -14,10 +13,10 @@ use Rattle.rules.specs.Lookups.{ask}
 use Rattle.rules.specs.Entries.{secondUnknown, wrongAccounts, pairUnknown, pairConditions}
 use Rattle.rules.specs.Refusals
 use Rattle.rules.specs.Refusals.{Is, NoRow, External, InT2S, Paired, PairRefused}
-use Rattle.rules.proofs.Basics.{bool-cases, unnot-false, and-first}
+use Rattle.rules.proofs.Basics.{bool-cases, and-first}
 use Rattle.rules.proofs.Several.{none-hold}
-use Rattle.rules.proofs.Reflection.{Says, says-as, says-not, says-or, says-and, says-not-and, says-cond, says-eq, says-ne, denies}
-use Rattle.rules.proofs.Places.{Renders, end, skip, test}
+use Rattle.rules.proofs.Reflection.{Says, says-as, says-not, says-or, says-and, says-not-and, says-eq, says-ne, denies}
+use Rattle.rules.proofs.Places.{Renders, skip, test}
 use Rattle.rules.proofs.RowTests.{says-no-row, says-full, known, says-external, says-other-account, says-paired, says-joined}
 use Rattle.rules.proofs.EntryRelation.{entryPlaces, behind}
 

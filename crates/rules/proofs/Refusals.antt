@@ -6,7 +6,7 @@ use mathlib.Core.List.{List, _∷_}
 use mathlib.Core.Option.{Option, none, some}
 use Prim.Native.Nat.{ℕ, zero, suc, _≤_}
 use native.Mathlib.Omega.{arith}
-use Rattle.rules.specs.Types.{Directory, Half, Units, Cents, Refused}
+use Rattle.rules.specs.Types.{Directory, Half, Units, Cents}
 use lib.IntN.{ℤ}
 use lib.Dec.{eqb}
 use lib.ListN.{length}
@@ -16,7 +16,7 @@ use Rattle.rules.specs.Entries.{Row, csdRow, securityRow, accountRow, pa
 use Rattle.rules.specs.Lookups.{homeOf, ask}
 use Rattle.rules.specs.Chain.{unchained, stepsOf, chainConditions}
 use Rattle.rules.specs.Booking.{Way, contra, moveBy, moveChain, positionCount, cashCount, securityTotalBy, securityTotalConditions, cashTotalBy, cashTotalConditions}
-use Rattle.rules.specs.Calls.{Store, Call, enter, move, pay, settle, derive, desk, core, outcome, success, coreConditions, deskConditions, halvesConditions, halvesChain, deriveConditions, bookConditions, isAccepted, numberOf, unitsNumber, centsNumber, deskSecurityTotal, deskCashTotal}
+use Rattle.rules.specs.Calls.{Store, Call, enter, move, pay, settle, derive, desk, core, outcome, success, coreConditions, deskConditions, halvesConditions, halvesChain, deriveConditions, bookConditions, isAccepted, unitsNumber, centsNumber, deskSecurityTotal, deskCashTotal}
 use Rattle.rules.specs.Demands.{Numbered, Refuses}
 use Rattle.rules.proofs.Basics.{impossible, Quiet, quiet}
 use Rattle.rules.proofs.Places.{in-places}
@@ -76,10 +76,6 @@ success-accepted (derive h g lent) st = refl
 accepted-zero : (n : ℕ) (c : Call) (st : Store) → isAccepted (outcome n c st .answer) ≡ true → n ≡ 0
 accepted-zero zero c st e = refl
 accepted-zero (suc n) c st e = absurd (true≢false (sym e))
-
-refused-number : (n m : ℕ) (c : Call) (st : Store) → outcome m c st .answer ≡ Refused n → (m ≡ n) × (1 ≤ m)
-refused-number n zero c st e = absurd (true≢false (sym (success-accepted c st) ∙ ap isAccepted e))
-refused-number n (suc m) c st e = (ap numberOf e, omega arith)
 
 -- a call that nothing refuses; the converse is in `accepted-lowest`
 pub desk-clear : (c : Call) (st : Store) → lowest (deskConditions c st) ≡ 0 → desk c st ≡ outcome 0 c st

@@ -1,7 +1,7 @@
 -- The tests of single rows and numbers say what the relations say.
-use mathlib.Core.Path.{_≡_, refl, sym, _∙_}
+use mathlib.Core.Path.{_≡_, refl, sym}
 use mathlib.Core.Logic.{_≢_, _⊎_, inl, inr}
-use mathlib.Core.Bool.{Bool, true, false, not, _&&_, _||_, cond}
+use mathlib.Core.Bool.{true, false, not, _&&_}
 use mathlib.Core.List.{List, [], _∷_, List·Memᴰ}
 use mathlib.Core.Option.{Option, none, some}
 use Prim.Native.Nat.{ℕ, zero, suc, _≤_, _<_}
@@ -10,11 +10,10 @@ use lib.Dec.{eqb, ltb}
 use lib.ListN.{length, getElem?}
 use Rattle.rules.specs.Types.{Csd, Account, Pair, Link}
 use Rattle.rules.specs.Tests.{isRow, isFull}
-use Rattle.rules.specs.Directory.{Rows, noAccount, typeIs, kindIs, csdIs, external, isKind, inBooks, joins, uses, isJoined, isPaired, isLink, isIssuer, isInvestor, isLinkTo, hasLink, hasIssuer, hasInvestor, hasLinkTo}
-use Rattle.rules.specs.Lookups.{isAccountOf, ask}
+use Rattle.rules.specs.Directory.{noAccount, typeIs, kindIs, csdIs, external, isKind, inBooks, joins, uses, isJoined, isPaired, isLink, isIssuer, isInvestor, isLinkTo, hasLink, hasIssuer, hasInvestor, hasLinkTo}
 use Rattle.rules.specs.Relations.{IssuerOf, LinkTo}
-use Rattle.rules.specs.Refusals.{Is, NoRow, External, Paired, asMirror, asOmnibus, NoPair, Linked}
-use Rattle.rules.proofs.Basics.{impossible, clash, unnot-false, eqb-is, eqb-true, ltb-is}
+use Rattle.rules.specs.Refusals.{Is, NoRow, External, Paired, asMirror, asOmnibus, Linked}
+use Rattle.rules.proofs.Basics.{impossible, clash, unnot-false, ltb-is}
 use Rattle.rules.proofs.Reflection.{Says, says-as, says-not, says-or, says-and, says-eq, says-not-and, says-ne, says-lt, says-le, says-any}
 
 -- ---- tables

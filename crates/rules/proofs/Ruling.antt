@@ -1,14 +1,14 @@
 -- Demand 2, every call: the conditions of a call render its relation, so that the number answered is the first that applies.
-use mathlib.Core.Path.{_≡_, refl, sym, ap, _∙_}
+use mathlib.Core.Path.{_≡_, refl, sym, _∙_}
 use mathlib.Core.Logic.{_≢_, _⊎_, inl, inr}
-use mathlib.Core.Bool.{Bool, true, false, not, _&&_, _||_, true≢false}
-use mathlib.Core.List.{List, [], _∷_, List·Memᴰ}
-use Prim.Native.Nat.{ℕ, zero, suc, _≤_, _<_}
+use mathlib.Core.Bool.{Bool, true, false, not, _&&_, true≢false}
+use mathlib.Core.List.{List, List·Memᴰ}
+use Prim.Native.Nat.{ℕ, zero, suc, _<_}
 use native.Mathlib.Omega.{arith}
 use lib.IntN.{ℤ}
 use lib.Dec.{eqb}
 use lib.ListN.{length}
-use Rattle.rules.specs.Types.{Account, Directory, Half, Step, Units, Cents, SumUnits, SumCents}
+use Rattle.rules.specs.Types.{Account, Directory, Half, Units, Cents, SumUnits, SumCents}
 use Rattle.rules.specs.Tests.{isRow, Condition, lowest}
 use Rattle.rules.specs.Directory.{Rows, rowsOf, accountLimit, isKind}
 use Rattle.rules.specs.Entries.{Row, csdRow, securityRow, accountRow, pairRow, linkRow, sound}

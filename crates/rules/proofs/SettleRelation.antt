@@ -1,25 +1,24 @@
 -- The conditions of derivations and settlements render the relations over a sound directory.
 use mathlib.Core.Path.{_≡_, refl, sym, ap, subst, _∙_}
 use mathlib.Core.Logic.{_≢_, _⊎_, inl, inr}
-use mathlib.Core.Bool.{Bool, true, false, not, _&&_, _||_}
+use mathlib.Core.Bool.{Bool, true, false, not, _||_}
 use mathlib.Core.List.{List, [], _∷_, _++_, append-nil, append-assoc, List·Memᴰ}
 use Prim.Native.Nat.{ℕ, zero, suc, _+_, _≤_, _<_}
 use native.Mathlib.Omega.{arith}
-use lib.IntN.{ℤ, pos, negℤ, _+ℤ_, _-ℤ_}
+use lib.IntN.{ℤ, pos, _+ℤ_, _-ℤ_}
 use lib.Signed.{_<ℤ_, ltZ}
-use lib.Dec.{eqb, ltb}
+use lib.Dec.{eqb}
 use Rattle.rules.specs.Types.{Account, Half, Step}
 use Rattle.rules.specs.Tests.{isRow, Condition, _when_}
 use Rattle.rules.specs.Directory.{Rows, isKind, inBooks}
 use Rattle.rules.specs.Lookups.{homeOf, ask}
 use Rattle.rules.specs.Chain.{Chain, chained, unchained, stepsOf, chainConditions}
-use Rattle.rules.specs.Booking.{limit, outOfRange, amountOutOfRange, beyond, unitsShort, unitsBeyond, cashShort, cashBeyond, paymentBeyond, cents, lessCents, cashOn}
+use Rattle.rules.specs.Booking.{limit, outOfRange, amountOutOfRange, beyond, unitsShort, unitsBeyond, cashShort, cashBeyond, paymentBeyond, cashOn}
 use Rattle.rules.specs.Calls.{halfUnknown, halfOutOfRange, halvesDiffer, halvesConditions, halvesChain, deriveConditions, bookConditions, settleConditions}
 use Rattle.rules.specs.Relations.{ChainIs}
 use Rattle.rules.specs.Refusals
-use Rattle.rules.specs.Refusals.{Is, NoRow, Beyond, Short, Exceeds, First, now, later, HalfRefused, HalvesRefused, ChainRefused, DeriveRefused, SettleRefused}
+use Rattle.rules.specs.Refusals.{Is, NoRow, Beyond, Short, Exceeds, HalfRefused, HalvesRefused, ChainRefused, DeriveRefused, SettleRefused}
 use Rattle.rules.proofs.Basics.{impossible, or-none, eqb-is, eqb-not, Quiet}
-use Rattle.rules.proofs.Several.{none-hold}
 use Rattle.rules.proofs.Reflection.{Says, says-as, says-or, says-and, says-eq, says-ne, says-lt, denied}
 use Rattle.rules.proofs.Places.{Renders, end, skip, test, stop, upFrom}
 use Rattle.rules.proofs.RowTests.{says-no-row, known, says-other-kind, says-other-csd}

@@ -5,7 +5,7 @@ use mathlib.Core.Bool.{true, _&&_}
 use mathlib.Core.List.{List, [], _∷_, _++_, append-nil}
 use Prim.Native.Nat.{ℕ}
 use lib.Seq.{append-snoc}
-use Rattle.rules.specs.Types.{Csd, Security, Account, Pair, Link, Directory}
+use Rattle.rules.specs.Types.{Directory}
 use Rattle.rules.specs.Tests.{eachAfter, lowest}
 use Rattle.rules.specs.Directory.{Rows, rowsOf, csdLimit, securityLimit, accountLimit, pairLimit, linkLimit}
 use Rattle.rules.specs.Entries.{Row, csdRow, securityRow, accountRow, pairRow, linkRow, rowConditions, csdRefusal, securityRefusal, accountRefusal, pairRefusal, linkRefusal, csdsSound, securitiesSound, accountsSound, pairsSound, linksSound, withinLimits, soundRows, sound}

@@ -8,7 +8,7 @@ use lib.Signed.{ltZ}
 use lib.Dec.{ltb, eqb}
 use lib.ListN.{getD, set}
 use Rattle.rules.specs.Types.{Pair, Step, Units, Cents, SecurityTotal, SumUnits, NoUnits, CashTotal, SumCents, NoCents}
-use Rattle.rules.specs.Tests.{any, Condition, _when_, lowest}
+use Rattle.rules.specs.Tests.{any, Condition, _when_}
 use Rattle.rules.specs.Directory.{securityLimit, accountLimit}
 use Rattle.rules.specs.Lookups.{Lookups}
 use Rattle.rules.specs.Chain.{Chain, chained, unchained, stepsOf, chainConditions, step}
