@@ -1,6 +1,6 @@
 //! The proved library, linked: the desk's functions over any directory and lists of any length. The
 //! directory goes as five counts and the bytes of all rows, each row with the bytes of the command that
-//! enters it (crates/layout/src/lib.rt).
+//! enters it, and a step as five bytes (crates/layout/src/lib.rt).
 
 use crate::booking::{Cents, Units};
 use crate::chain::{Step, STEPS};
@@ -11,15 +11,21 @@ use crate::trial::implementation::{Answer, Call, Implementation, Program, Store}
 /// Bytes of a row of each table.
 const WIDTHS: [usize; 5] = [12, 12, 2, 6, 7];
 const ROWS: [usize; 5] = [CSDS, SECURITIES, ACCOUNTS, PAIRS, LINKS];
-pub const STEP_BYTES: usize = STEPS * 5;
+const STEP_WIDTH: usize = 5;
+pub const STEP_BYTES: usize = STEPS * STEP_WIDTH;
 /// Bytes that hold any transcript (crates/stream/src/lib.rt, ROOM).
-const ROOM: usize = 400_000;
+pub const ROOM: usize = 400_000;
 
 /// What an answer's number starts from, by kind.
 const KIND: u64 = 256;
+/// The answer where counts, rows or the place of a sum do not fit.
+pub const MISFIT: u64 = 5 * KIND;
 
-/// The boundary. A Rattle slice is a pointer and a length; nothing is kept after a call.
-mod boundary {
+/// What stands where a sum is to go.
+const NO_SUM: i64 = i64::MIN;
+
+/// The boundary, over buffers of any length. A Rattle slice is a pointer and a length; nothing is kept after a call.
+pub mod boundary {
     #![allow(unsafe_code)]
 
     use super::*;
@@ -56,7 +62,6 @@ mod boundary {
             positions_length: usize,
             cash: *mut i64,
             cash_length: usize,
-            lent: usize,
             operands: *const u8,
             operands_length: usize,
             steps: *mut u8,
@@ -67,7 +72,6 @@ mod boundary {
             counts_length: usize,
             rows: *const u8,
             rows_length: usize,
-            lent: usize,
             operands: *const u8,
             operands_length: usize,
             steps: *mut u8,
@@ -129,7 +133,6 @@ mod boundary {
         directory: &Bytes,
         positions: &mut [Units],
         cash: &mut [Cents],
-        lent: usize,
         operands: &[u8],
         steps: &mut [u8],
     ) -> u64 {
@@ -144,7 +147,6 @@ mod boundary {
                 positions.len(),
                 cash.as_mut_ptr().cast(),
                 cash.len(),
-                lent,
                 operands.as_ptr(),
                 operands.len(),
                 steps.as_mut_ptr(),
@@ -153,7 +155,7 @@ mod boundary {
         }
     }
 
-    pub fn derive(directory: &Bytes, lent: usize, operands: &[u8], steps: &mut [u8]) -> u64 {
+    pub fn derive(directory: &Bytes, operands: &[u8], steps: &mut [u8]) -> u64 {
         let Bytes { counts, rows } = directory;
         unsafe {
             fluzzam_derive(
@@ -161,7 +163,6 @@ mod boundary {
                 counts.len(),
                 rows.as_ptr(),
                 rows.len(),
-                lent,
                 operands.as_ptr(),
                 operands.len(),
                 steps.as_mut_ptr(),
@@ -197,16 +198,17 @@ mod boundary {
 }
 
 /// A directory as it goes through the boundary.
-#[derive(Clone, PartialEq, Eq, Default)]
+#[derive(Clone, PartialEq, Eq, Debug, Default)]
 pub struct Bytes {
-    counts: [usize; 5],
-    rows: Vec<u8>,
+    pub counts: Vec<usize>,
+    pub rows: Vec<u8>,
 }
 
 impl Bytes {
-    fn write(&mut self, directory: &Directory) {
+    pub fn write(&mut self, directory: &Directory) {
         let Directory { csds, securities, accounts, pairs, links } = directory;
-        self.counts = [csds.count, securities.count, accounts.count, pairs.count, links.count];
+        self.counts.clear();
+        self.counts.extend([csds.count, securities.count, accounts.count, pairs.count, links.count]);
         self.rows.clear();
         let rows = &mut self.rows;
         csds.rows.iter().for_each(|row| write_row(rows, Command::EnterCsd(*row)));
@@ -234,7 +236,7 @@ impl Bytes {
                 }
             }
         }
-        let [csds, securities, accounts, pairs, links] = self.counts;
+        let [csds, securities, accounts, pairs, links] = self.counts[..] else { unreachable!("five counts were written") };
         directory.csds.count = csds;
         directory.securities.count = securities;
         directory.accounts.count = accounts;
@@ -257,69 +259,34 @@ fn read_row(code: u8, operands: &[u8]) -> Command {
     Reader::new(&bytes).command().expect("a row has all the operands of its command")
 }
 
-/// The proved library.
-#[derive(Default)]
-pub struct Proved {
-    directory: Bytes,
-    before: Bytes,
-    command: Vec<u8>,
-    output: Vec<u8>,
-}
-
-impl Program for Proved {
-    fn transcript(&mut self, input: &[u8]) -> Vec<u8> {
-        self.output.resize(ROOM, 0);
-        let length = boundary::run(input, &mut self.output);
-        self.output[..length].to_vec()
+/// Steps as they go through the boundary.
+pub fn write_steps(bytes: &mut Vec<u8>, steps: &[Step]) {
+    bytes.clear();
+    for &Step { csd, debit, credit } in steps {
+        bytes.push(csd);
+        bytes.extend(debit.to_be_bytes());
+        bytes.extend(credit.to_be_bytes());
     }
 }
 
-impl Proved {
-    /// The directory that calls are handed from now on, as it goes through the boundary.
-    pub fn hand(&mut self, directory: &Directory) {
-        self.directory.write(directory);
-    }
-
-    /// One call on the directory handed: its number, and what it leaves.
-    pub fn make(&mut self, store: &mut Store, call: &Call, sum: &mut [i64; 1], chain: &mut [u8; STEP_BYTES]) -> u64 {
-        let directory = &mut self.directory;
-        let Store { positions, cash, steps, .. } = store;
-        let command = match call {
-            Call::Total { security } => return boundary::security_total(directory, positions, *security, sum),
-            Call::CashTotal => return boundary::cash_total(cash, sum),
-            Call::Command(command) => command,
-        };
-        self.command.clear();
-        command.write(&mut self.command);
-        let (tag, operands) = (self.command[0], &self.command[1..]);
-        match command {
-            Command::Settle { .. } => boundary::settle(directory, positions, cash, steps.len(), operands, chain),
-            Command::Derive { .. } => boundary::derive(directory, steps.len(), operands, chain),
-            Command::BringIn { .. } | Command::TakeOut { .. } | Command::PayIn { .. } | Command::PayOut { .. } => {
-                boundary::move_(directory, positions, cash, tag, operands)
-            }
-            _ => boundary::enter(directory, tag, operands),
-        }
-    }
+fn read_step(bytes: &[u8]) -> Step {
+    let account = |place: usize| u16::from_be_bytes([bytes[place], bytes[place + 1]]);
+    Step { csd: bytes[0], debit: account(1), credit: account(3) }
 }
 
-impl Implementation for Proved {
-    fn call(&mut self, store: &mut Store, call: &Call) -> Answer {
-        let mut sum = [0];
-        let mut chain = [0; STEP_BYTES];
-        self.hand(&store.directory);
-        self.before.clone_from(&self.directory);
-        let code = self.make(store, call, &mut sum, &mut chain);
-        if self.directory != self.before {
-            store.directory = self.directory.read();
-        }
-        let answer = answer(code, sum[0]);
-        if let Answer::Booked(length) | Answer::Chain(length) = answer {
-            for (step, bytes) in store.steps.iter_mut().zip(chain.chunks_exact(5)).take(length) {
-                *step = read_step(bytes);
-            }
-        }
-        answer
+/// The steps of a whole buffer; fewer than five bytes at its end are none.
+pub fn read_steps(bytes: &[u8]) -> Vec<Step> {
+    bytes.chunks_exact(STEP_WIDTH).map(read_step).collect()
+}
+
+/// The number that an answer goes through the boundary as.
+pub fn code(answer: &Answer) -> u64 {
+    match *answer {
+        Answer::Accepted => 0,
+        Answer::Booked(length) => KIND + length as u64,
+        Answer::Chain(length) => 2 * KIND + length as u64,
+        Answer::Refused(number) => 3 * KIND + u64::from(number),
+        Answer::Sum(_) => 4 * KIND,
     }
 }
 
@@ -335,7 +302,72 @@ fn answer(code: u64, sum: i64) -> Answer {
     }
 }
 
-fn read_step(bytes: &[u8]) -> Step {
-    let account = |place: usize| u16::from_be_bytes([bytes[place], bytes[place + 1]]);
-    Step { csd: bytes[0], debit: account(1), credit: account(3) }
+/// The proved library.
+#[derive(Default)]
+pub struct Proved {
+    directory: Bytes,
+    before: Bytes,
+    command: Vec<u8>,
+    steps: Vec<u8>,
+}
+
+impl Program for Proved {
+    fn transcript(&mut self, input: &[u8]) -> Vec<u8> {
+        let mut output = vec![0; ROOM];
+        let length = boundary::run(input, &mut output);
+        output.truncate(length);
+        output
+    }
+}
+
+impl Proved {
+    /// The directory that calls are handed from now on, as it goes through the boundary.
+    pub fn hand(&mut self, directory: &Directory) {
+        self.directory.write(directory);
+    }
+
+    /// One call on the directory handed: its number, and what it leaves.
+    pub fn make(&mut self, store: &mut Store, call: &Call, sum: &mut [i64; 1], steps: &mut [u8]) -> u64 {
+        let directory = &mut self.directory;
+        let Store { positions, cash, .. } = store;
+        let command = match call {
+            Call::Total { security } => return boundary::security_total(directory, positions, *security, sum),
+            Call::CashTotal => return boundary::cash_total(cash, sum),
+            Call::Command(command) => command,
+        };
+        self.command.clear();
+        command.write(&mut self.command);
+        let (tag, operands) = (self.command[0], &self.command[1..]);
+        match command {
+            Command::Settle { .. } => boundary::settle(directory, positions, cash, operands, steps),
+            Command::Derive { .. } => boundary::derive(directory, operands, steps),
+            Command::BringIn { .. } | Command::TakeOut { .. } | Command::PayIn { .. } | Command::PayOut { .. } => {
+                boundary::move_(directory, positions, cash, tag, operands)
+            }
+            _ => boundary::enter(directory, tag, operands),
+        }
+    }
+}
+
+impl Implementation for Proved {
+    /// The whole list of steps goes through the boundary and comes back. A refused call leaves counts, rows and
+    /// the place of a sum as they were, byte by byte.
+    fn call(&mut self, store: &mut Store, call: &Call) -> Answer {
+        let mut sum = [NO_SUM];
+        let mut steps = std::mem::take(&mut self.steps);
+        write_steps(&mut steps, &store.steps);
+        self.hand(&store.directory);
+        self.before.clone_from(&self.directory);
+        let code = self.make(store, call, &mut sum, &mut steps);
+        let answer = answer(code, sum[0]);
+        if matches!(answer, Answer::Refused(_)) {
+            assert!(self.directory == self.before && sum == [NO_SUM], "{call:?}: refused, but written");
+        }
+        if self.directory != self.before {
+            store.directory = self.directory.read();
+        }
+        store.steps = read_steps(&steps);
+        self.steps = steps;
+        answer
+    }
 }

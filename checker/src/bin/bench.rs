@@ -58,7 +58,7 @@ fn desk(full: bool) {
 
 fn call(name: &str, directory: &Directory, call: &Call) {
     let mut proved = Proved::default();
-    let mut store = Store { steps: vec![Default::default(); 16], ..Store::empty() };
+    let mut store = Store::empty();
     store.positions.fill(Units(1_000_000_000));
     let mut times = Vec::new();
     for _ in 0..RUNS {
@@ -74,11 +74,10 @@ fn call(name: &str, directory: &Directory, call: &Call) {
 }
 
 fn report(name: &str, input: &[u8]) {
-    let mut proved = Proved::default();
     let mut times = [Vec::new(), Vec::new()];
     for _ in 0..RUNS {
         times[0].push(time(&mut Model, input));
-        times[1].push(time(&mut proved, input));
+        times[1].push(time(&mut Proved::default(), input));
     }
     let commands = commands(input);
     let [model, proved] = times.map(|mut times| {
@@ -91,6 +90,7 @@ fn report(name: &str, input: &[u8]) {
     println!("{name:34} {commands:8} {:>18} {:>18} {ratios:>14}", pair(model), pair(proved));
 }
 
+/// State and output are set up and cleared within the time, on both sides.
 fn time(subject: &mut impl Program, input: &[u8]) -> Duration {
     let start = Instant::now();
     black_box(subject.transcript(black_box(input)));

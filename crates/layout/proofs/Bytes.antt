@@ -1,14 +1,19 @@
--- Bytes written one after the other: a byte more, all of a table, and the five tables; and the counts likewise.
-use Prim.Native.Nat.{ℕ, zero, suc, _+_, _-_, _/_, _%_, _≤_, _<_}
+-- Bytes written one after the other: a byte more, all of a table, the five tables, and steps; and the counts likewise.
+use Prim.Native.Nat.{ℕ, zero, suc, _+_, _*_, _-_, _/_, _%_, _≤_, _<_}
 use native.Mathlib.Numerals.{add-one}
 use native.Mathlib.Omega.{arith}
 use mathlib.Core.Path.{_≡_, refl, sym, ap, _∙_}
 use mathlib.Core.Logic.{_≢_}
-use mathlib.Core.List.{List, _∷_, _++_, append-assoc, append-nil}
-use lib.ListN.{length, getD, set, take, drop, length-set}
-use lib.Seq.{take-all, take-suc, take-suc-set, drop-drop, drop-set-lt}
-use Rattle.rules.proofs.Basics.{eqb-true, eqb-false}
-use Rattle.layout.specs.Layout.{bytesIn, filled, Put}
+use mathlib.Core.List.{List, _∷_, _++_, map, append-assoc, append-nil}
+use lib.ListN.{length, getD, set, take, drop, length-set, length-map, take-append-drop}
+use lib.Seq.{take-all, take-suc, take-suc-set, length-take-le, getD-take, drop-drop, drop-set-lt}
+use lib.Dec.{leb}
+use borrow.Author.Tests.{le-leb, lt-leb}
+use Rattle.rules.specs.declared.Step.{Step}
+use Rattle.rules.specs.declared.Steps.{Steps}
+use Rattle.rules.specs.Chain.{step, stepRows}
+use Rattle.rules.proofs.Basics.{eqb-true, eqb-false, and-true, and-untrue}
+use Rattle.layout.specs.Layout.{bytesIn, stepBytes, bytesOfSteps, filled, withSteps, stepsPut, Put}
 
 -- the byte behind the first
 pub behind : (x : ℕ) (l : List ℕ) (k : ℕ) → 0 < k → getD l (k - 1) 0 ≡ getD (x ∷ l) k 0
@@ -33,15 +38,41 @@ module _ {A : Type 0} (bytes : A → List ℕ) (blank : A) (w : ℕ) (rows : Lis
       → Put start end (bytesIn bytes blank w rows n) before after
   put-done at end j n after e q p = rw (← e, ← q) p
 
--- a buffer that is written from its start to its end holds what was written
-pub put-whole : (n : ℕ) (xs before after : List ℕ) → length before ≡ n → Put 0 n xs before after → after ≡ xs
-put-whole n xs before after l p = sym (take-all n after (omega (arith, p .0))) ∙ p .1
-
 module _ (n₁ n₂ n₃ n₄ n₅ : ℕ) (b₀ b₁ b₂ b₃ b₄ b₅ x₁ x₂ x₃ x₄ x₅ : List ℕ) where
   pub five : length b₀ ≡ n₅ → Put 0 n₁ x₁ b₀ b₁ → Put n₁ n₂ x₂ b₁ b₂ → Put n₂ n₃ x₃ b₂ b₃ → Put n₃ n₄ x₄ b₃ b₄ → Put n₄ n₅ x₅ b₄ b₅
       → b₅ ≡ x₁ ++ (x₂ ++ (x₃ ++ (x₄ ++ x₅)))
   five l p₁ p₂ p₃ p₄ p₅ =
       sym (take-all n₅ b₅ (omega (arith, p₁ .0, p₂ .0, p₃ .0, p₄ .0, p₅ .0))) ∙ p₅ .1 ∙ rw (p₄ .1, p₃ .1, p₂ .1, p₁ .1) (simp append-assoc)
+
+-- ---- steps
+
+-- an array of structs has the length of its type
+pub length-mapped : {X Y : Type 0} (f : X → Y) (l : List X) (n : ℕ) → length (map f l) ≡ n → length l ≡ n
+length-mapped f l n p = sym (length-map l f) ∙ p
+
+module _ (rows : List Step) (k : ℕ) where
+  -- the first steps have the first bytes
+  first-bytes : (n : ℕ) → n ≤ k * 5 → bytesIn stepBytes (step 0 0 0) 5 rows n ≡ bytesIn stepBytes (step 0 0 0) 5 (take k rows) n
+  unfolding bytesIn
+  first-bytes zero h = refl
+  first-bytes (suc n) h = rw (first-bytes n (omega arith), getD-take k rows (n / 5) (step 0 0 0) (omega arith))
+
+  pub steps-done : (j : ℕ) (before after : List ℕ) → k ≤ length rows → j ≡ k * 5 → Put 0 j (bytesIn stepBytes (step 0 0 0) 5 rows j) before after
+      → after ≡ withSteps (take k rows) before
+  unfolding bytesOfSteps
+  steps-done j before after h e p =
+      rw (length-take-le k rows h, ← e)
+      (sym (take-append-drop j after) ∙ rw (p .1, p .2, first-bytes j (omega arith)))
+
+module _ (t : Steps) (old : List ℕ) where
+  pub steps-fit : t .count ≤ 16 → t .count * 5 ≤ length old → withSteps (stepRows t) old ≡ stepsPut t old
+  steps-fit h k = rw (and-true _ _ (le-leb (t .count) 16 h) (le-leb (t .count * 5) (length old) k))
+
+  pub too-many : 16 < t .count → old ≡ stepsPut t old
+  too-many h = rw (lt-leb (t .count) 16 h)
+
+  pub no-room : length old < t .count * 5 → old ≡ stepsPut t old
+  no-room h = rw (and-untrue (leb (t .count) 16) (leb (t .count * 5) (length old)) (λ _. lt-leb (t .count * 5) (length old) h))
 
 -- ---- counts
 

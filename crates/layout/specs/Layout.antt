@@ -1,9 +1,9 @@
--- The directory as five counts and 2,368 bytes, and 16 steps as 80 bytes. A row has the bytes of the command that enters it. Assumes nothing.
+-- The directory as five counts and 2,368 bytes, and steps as 5 bytes each. A row has the bytes of the command that enters it. Assumes nothing.
 use Prim.Native.Nat.{ℕ, zero, suc, _+_, _*_, _/_, _%_}
 use mathlib.Core.Path.{_≡_}
-use mathlib.Core.Bool.{cond}
+use mathlib.Core.Bool.{cond, _&&_}
 use mathlib.Core.List.{List, [], _∷_, _++_}
-use lib.Dec.{eqb}
+use lib.Dec.{eqb, leb}
 use lib.ListN.{length, getD, take, drop}
 use Rattle.rules.specs.declared.Csd.{Csd}
 use Rattle.rules.specs.declared.Security.{Security}
@@ -20,7 +20,7 @@ use Rattle.rules.specs.declared.Directory.{Directory}
 use Rattle.rules.specs.declared.Steps.{Steps}
 use Rattle.rules.specs.Directory.{csdLimit, securityLimit, accountLimit, pairLimit, linkLimit}
 use Rattle.rules.specs.Entries.{Row, csdRow, securityRow, accountRow, pairRow, linkRow, blankAccount, blankPair, blankLink}
-use Rattle.rules.specs.Chain.{step, stepLimit}
+use Rattle.rules.specs.Chain.{step, stepRows, stepLimit}
 use Rattle.rules.specs.Stream.{accountAt, pairAt, linkAt}
 use Rattle.wire.specs.Operands.{csdIn, securityIn}
 
@@ -75,15 +75,12 @@ pairsStart = accountsStart + accountsLength
 abbrev pub linksStart : ℕ
 linksStart = pairsStart + pairsLength
 
--- how many counts, bytes of rows and bytes of steps there are
+-- how many counts and bytes of rows there are
 abbrev pub countsLength : ℕ
 countsLength = 5
 
 abbrev pub rowsLength : ℕ
 rowsLength = linksStart + linksLength
-
-abbrev pub stepsLength : ℕ
-stepsLength = stepLimit * stepWidth
 
 -- ---- the directory that counts and bytes stand for: what is not there reads as 0
 
@@ -183,7 +180,7 @@ unfoldable pub bytesIn : {A : Type 0} → (A → List ℕ) → A → ℕ → Lis
 bytesIn bytes blank w rows zero = []
 bytesIn bytes blank w rows (suc n) = bytesIn bytes blank w rows n ++ (getD (bytes (getD rows (n / w) blank)) (n % w) 0 ∷ [])
 
--- the bytes of each table, and of 16 steps
+-- the bytes of each table, and of steps
 abbrev pub bytesOfCsds : CsdTable → List ℕ
 bytesOfCsds t = bytesIn csdBytes noCsd csdWidth (t .rows) csdsLength
 
@@ -199,8 +196,8 @@ bytesOfPairs t = bytesIn pairBytes blankPair pairWidth (t .rows) pairsLength
 abbrev pub bytesOfLinks : LinkTable → List ℕ
 bytesOfLinks t = bytesIn linkBytes blankLink linkWidth (t .rows) linksLength
 
-unfoldable pub bytesOfSteps : Steps → List ℕ
-bytesOfSteps t = bytesIn stepBytes (step 0 0 0) stepWidth (t .rows) stepsLength
+unfoldable pub bytesOfSteps : List Step → List ℕ
+bytesOfSteps xs = bytesIn stepBytes (step 0 0 0) stepWidth xs (length xs * stepWidth)
 
 unfoldable pub bytesOf : Directory → List ℕ
 bytesOf d =
@@ -212,6 +209,14 @@ countsOf d = d .csds .count ∷ d .securities .count ∷ d .accounts .count ∷ 
 -- a buffer of n numbers takes the new ones, any other stays as it was
 abbrev pub filled : ℕ → List ℕ → List ℕ → List ℕ
 filled n new old = cond (eqb (length old) n) new old
+
+-- steps at the front of a buffer, "the rest untouched"
+abbrev pub withSteps : List Step → List ℕ → List ℕ
+withSteps xs old = bytesOfSteps xs ++ drop (length xs * stepWidth) old
+
+-- a buffer with room for all steps, at most 16, takes them, any other stays as it was
+abbrev pub stepsPut : Steps → List ℕ → List ℕ
+stepsPut t old = cond (leb (t .count) stepLimit && leb (t .count * stepWidth) (length old)) (withSteps (stepRows t) old) old
 
 -- xs stands in a buffer from index `start` up to `end`; the rest of it is as before
 abbrev pub Put : ℕ → ℕ → List ℕ → List ℕ → List ℕ → Type 0

@@ -23,14 +23,15 @@ use rules::Step;
 use rules::Steps;
 use wire::operands;
 ghost use mathlib.Core.Path.{_≡_};
-ghost use Prim.Native.Nat.{_+_, _<_, _/_, _%_, min};
+ghost use Prim.Native.Nat.{_+_, _*_, _<_, _≤_, _/_, _%_, min};
 ghost use lib.ListN.{length, getD};
+ghost use Rattle.rules.specs.Chain.{stepRows, stepLimit};
 ghost use Rattle.layout.specs.Layout.{csdWidth, securityWidth, accountWidth, pairWidth, linkWidth, stepWidth};
-ghost use Rattle.layout.specs.Layout.{csdsStart, securitiesStart, accountsStart, pairsStart, linksStart, countsLength, rowsLength, stepsLength};
+ghost use Rattle.layout.specs.Layout.{csdsStart, securitiesStart, accountsStart, pairsStart, linksStart, countsLength, rowsLength};
 ghost use Rattle.layout.specs.Layout.{csdsIn, securitiesIn, accountsIn, pairsIn, linksIn, directoryIn};
 ghost use Rattle.layout.specs.Layout.{csdBytes, securityBytes, accountBytes, pairBytes, linkBytes, stepBytes};
-ghost use Rattle.layout.specs.Layout.{bytesOfCsds, bytesOfSecurities, bytesOfAccounts, bytesOfPairs, bytesOfLinks, bytesOfSteps, bytesOf};
-ghost use Rattle.layout.specs.Layout.{countsOf, filled, Put};
+ghost use Rattle.layout.specs.Layout.{bytesOfCsds, bytesOfSecurities, bytesOfAccounts, bytesOfPairs, bytesOfLinks, bytesOf};
+ghost use Rattle.layout.specs.Layout.{countsOf, filled, withSteps, stepsPut, Put};
 
 // Bytes of a row of each table, and of a step.
 const CSD_WIDTH: usize = 12;
@@ -43,7 +44,7 @@ const PAIR_WIDTH: usize = 6;
 
 const LINK_WIDTH: usize = 7;
 
-const STEP_WIDTH: usize = 5;
+pub const STEP_WIDTH: usize = 5;
 
 // Bytes of each table.
 const CSD_BYTES: usize = CSDS * CSD_WIDTH;
@@ -67,12 +68,10 @@ const PAIR_ROWS: usize = ACCOUNT_ROWS + ACCOUNT_BYTES;
 
 const LINK_ROWS: usize = PAIR_ROWS + PAIR_BYTES;
 
-// How many counts, bytes of rows and bytes of steps there are.
+// How many counts and bytes of rows there are.
 pub const COUNTS: usize = 5;
 
 pub const ROWS: usize = LINK_ROWS + LINK_BYTES;
-
-pub const STEP_BYTES: usize = STEPS * STEP_WIDTH;
 
 // ---- reading: what is not there reads as 0
 
@@ -391,13 +390,14 @@ fn put_rows(bytes: &mut [u8], directory: Directory)
     write_links(bytes, directory.links);
 }
 
-// All 16 steps, 5 bytes each: CSD 1, accounts 2 and 2.
+// The steps that are counted, 5 bytes each: CSD 1, accounts 2 and 2. What stands behind them stays.
 fn put_steps(bytes: &mut [u8], steps: Steps)
-    requires { ⌜ length (now bytes) ≡ stepsLength ⌝ }
-    ensures { λ _. ⌜ now (bytes .exit) ≡ bytesOfSteps steps ⌝ }
+    requires { ⌜ (steps .count ≤ stepLimit) × (steps .count * stepWidth ≤ length (now bytes)) ⌝ }
+    ensures { λ _. ⌜ now (bytes .exit) ≡ withSteps (stepRows steps) (now (bytes .entry)) ⌝ }
 {
+    let end = steps.count * STEP_WIDTH;
     let mut j: usize = 0;
-    while j < STEP_BYTES {
+    while j < end {
         bytes[j] = step_byte(steps.rows[j / STEP_WIDTH], j % STEP_WIDTH);
         j += 1;
     }
@@ -422,9 +422,14 @@ pub fn write_rows(bytes: &mut [u8], directory: Directory)
 }
 
 pub fn write_steps(bytes: &mut [u8], steps: Steps)
-    ensures { λ _. ⌜ now (bytes .exit) ≡ filled stepsLength (bytesOfSteps steps) (now (bytes .entry)) ⌝ }
+    ensures { λ _. ⌜ now (bytes .exit) ≡ stepsPut steps (now (bytes .entry)) ⌝ }
 {
-    if bytes.len() == STEP_BYTES {
-        put_steps(bytes, steps);
+    let count = steps.count;
+    if STEPS < count {
+        return;
     }
+    if bytes.len() < count * STEP_WIDTH {
+        return;
+    }
+    put_steps(bytes, steps);
 }

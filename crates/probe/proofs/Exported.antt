@@ -1,15 +1,19 @@
 -- What the exports answer and leave, from what the functions that they call answer and leave.
-use Prim.Native.Nat.{ℕ, _+_}
-use mathlib.Core.Path.{_≡_, sym, ap, _∙_}
+use Prim.Native.Nat.{ℕ, _+_, _/_, _≤_, _<_}
+use native.Mathlib.Omega.{arith}
+use mathlib.Core.Path.{_≡_, refl, sym, ap, _∙_}
 use mathlib.Core.Logic.{_≢_}
 use mathlib.Core.Bool.{Bool, true, false, not, _&&_, cond}
-use mathlib.Core.List.{List}
+use mathlib.Core.List.{List, []}
 use lib.IntN.{ℤ}
 use lib.Dec.{eqb}
-use lib.ListN.{length, set}
+use lib.ListN.{length, take, drop, set, length-replicate}
+use lib.Seq.{take-append-seam}
 use Rattle.rules.specs.declared.Directory.{Directory}
 use Rattle.rules.specs.declared.Half.{Half}
+use Rattle.rules.specs.declared.Step.{Step}
 use Rattle.rules.specs.declared.Answer.{Answer}
+use Rattle.rules.specs.declared.Answer.the-variants.{Refused}
 use Rattle.rules.specs.declared.Entered.{Entered}
 use Rattle.rules.specs.declared.Reply.{Reply}
 use Rattle.rules.specs.declared.Units.{Units}
@@ -18,14 +22,19 @@ use Rattle.rules.specs.declared.SecurityTotal.{SecurityTotal}
 use Rattle.rules.specs.declared.SecurityTotal.the-variants.{SumUnits, NoUnits}
 use Rattle.rules.specs.declared.CashTotal.{CashTotal}
 use Rattle.rules.specs.declared.CashTotal.the-variants.{SumCents, NoCents}
-use Rattle.rules.specs.Calls.{Outcome, desk, deskSecurityTotal, deskCashTotal}
-use Rattle.rules.specs.Stream.{halfAt}
+use Rattle.rules.specs.Tests.{lowest}
+use Rattle.rules.specs.Chain.{step}
+use Rattle.rules.specs.Calls.{Outcome, desk, isAccepted, lentSteps, deskSecurityTotal, deskCashTotal}
+use Rattle.rules.specs.Stream.{callOf, halfAt}
+use Rattle.rules.specs.Outcomes.{holding, settlementOn, derivationOn, blanks, byValue, replyOf}
 use Rattle.rules.proofs.Basics.{eqb-true, eqb-false, and-true, and-untrue}
-use Rattle.rules.specs.Outcomes.{holding, enteredOn, settlementOn, derivationOn, blanks, replyOf}
-use Rattle.probe.specs.Codes.{codeOf}
-use Rattle.layout.specs.Layout.{countsLength, rowsLength, stepsLength, directoryIn, countsOf, bytesOf, bytesOfSteps, filled}
-use Rattle.probe.specs.Exports.{misfit, fits, fitsSteps, fitsSum, rowOf, moveOf, enters, moves, settles, derives, unitsCode, unitsLeft, centsCode, centsLeft}
-use Rattle.layout.proofs.Bytes.{fills}
+use Rattle.desk.proofs.Lent as Lent
+use Rattle.layout.specs.Layout.{countsLength, rowsLength, directoryIn, countsOf, bytesOf, bytesIn, bytesOfSteps, filled, withSteps, stepsPut}
+use Rattle.layout.proofs.Bytes.{fills, steps-fit}
+use Rattle.probe.specs.Codes.{misfit, codeOf, unitsCode, centsCode}
+use Rattle.probe.specs.Exports.{fits, fitsSum, isEntry, isMove, width, callIn, lending, stepsLent, readConditions, enteredBy, chainOf}
+use Rattle.probe.specs.Exports.{enters, moves, settles, derives, unitsLeft, centsLeft, Enters, Moves, Settles, Derives}
+use Rattle.probe.proofs.Read.{cut-is, none-is, read-refused, read-passed}
 use Rattle.probe.proofs.Moves.{Leaves}
 
 -- ---- tests
@@ -42,18 +51,22 @@ empty sum h = rw (eqb-true (length sum) 0 h)
 some-place : (sum : List ℤ) → length sum ≢ 0 → not (eqb (length sum) 0) ≡ true
 some-place sum h = rw (eqb-false (length sum) 0 h)
 
+-- ---- steps in a buffer
+
+no-steps : (steps : List ℕ) → steps ≡ withSteps [] steps
+unfolding bytesOfSteps bytesIn
+no-steps steps = refl
+
+all-steps : (xs : List Step) (steps : List ℕ) → length xs ≤ 16 → length xs ≤ length steps / 5 → stepsPut (byValue xs) steps ≡ withSteps xs steps
+all-steps xs steps h k =
+    sym (steps-fit (byValue xs) steps h (omega arith)) ∙ ap (λ (ys : List Step). withSteps ys steps) (take-append-seam xs (drop (length xs) (blanks 16)))
+
 module _ (counts rows : List ℕ) where
   pub no-counts : length counts ≢ countsLength → fits counts rows ≡ false
   no-counts h = first-fails _ _ (eqb-false (length counts) countsLength h)
 
   pub no-rows : length rows ≢ rowsLength → fits counts rows ≡ false
   no-rows h = second-fails (eqb (length counts) countsLength) (eqb (length rows) rowsLength) (eqb-false (length rows) rowsLength h)
-
-  pub unfit-steps : (steps : List ℕ) → fits counts rows ≡ false → fitsSteps counts rows steps ≡ false
-  unfit-steps steps e = first-fails (fits counts rows) (eqb (length steps) stepsLength) e
-
-  pub no-steps : (steps : List ℕ) → length steps ≢ stepsLength → fitsSteps counts rows steps ≡ false
-  no-steps steps h = second-fails (fits counts rows) (eqb (length steps) stepsLength) (eqb-false (length steps) stepsLength h)
 
   pub unfit-sum : (sum : List ℤ) → fits counts rows ≡ false → fitsSum counts rows sum ≡ false
   unfit-sum sum e = first-fails (fits counts rows) (not (eqb (length sum) 0)) e
@@ -65,41 +78,100 @@ module _ (counts rows : List ℕ) where
     fit : fits counts rows ≡ true
     fit = and-true _ _ (eqb-true (length counts) countsLength h) (eqb-true (length rows) rowsLength k)
 
+    -- ---- 1 and 2
+
+    module _ (tag : ℕ) (o : List ℕ) (n : ℕ) (m : n ≡ lowest (readConditions (isEntry tag) tag o)) where
+      enters-unread : n ≢ 0 → enters counts rows tag o ≡ record { answer = Refused n; store = holding (directoryIn counts rows) [] []; steps = lentSteps (callIn tag o) }
+      unfolding enters
+      enters-unread ne = read-refused (isEntry tag) tag o n m (callIn tag o) (holding (directoryIn counts rows) [] []) ne
+
+      pub entry-unread : n ≢ 0 → (code : ℕ) → code ≡ codeOf (Refused n) → Enters counts rows tag o code counts rows
+      entry-unread ne code q =
+          let f : fits counts rows ≡ true = fit in
+          let x = enters-unread ne in
+          rw (f, x) (q, refl, refl)
+
+    module _ (p c : List ℤ) (tag : ℕ) (o : List ℕ) (n : ℕ) (m : n ≡ lowest (readConditions (isMove tag) tag o)) where
+      moves-unread : n ≢ 0
+          → moves counts rows p c tag o ≡ record { answer = Refused n; store = holding (directoryIn counts rows) p c; steps = lentSteps (callIn tag o) }
+      unfolding moves
+      moves-unread ne = read-refused (isMove tag) tag o n m (callIn tag o) (holding (directoryIn counts rows) p c) ne
+
+      pub move-unread : n ≢ 0 → (code : ℕ) → code ≡ codeOf (Refused n) → Moves counts rows p c tag o code p c
+      move-unread ne code q =
+          let f : fits counts rows ≡ true = fit in
+          let x = moves-unread ne in
+          rw (f, x) (q, refl, refl)
+
+    module _ (o steps : List ℕ) (s : length o < 40) (code : ℕ) (q : code ≡ codeOf (Refused 2)) where
+      settles-cut : (p c : List ℤ)
+          → settles counts rows p c o steps
+          ≡ record { answer = Refused 2; store = holding (directoryIn counts rows) p c; steps = lentSteps (lending (stepsLent steps) (callIn 10 o)) }
+      unfolding settles
+      settles-cut p c = read-refused true 10 o 2 (cut-is true 10 o refl s) (lending (stepsLent steps) (callIn 10 o)) (holding (directoryIn counts rows) p c) (λ z. omega arith)
+
+      derives-cut :
+          derives counts rows o steps
+          ≡ record { answer = Refused 2; store = holding (directoryIn counts rows) [] []; steps = lentSteps (lending (stepsLent steps) (callIn 11 o)) }
+      unfolding derives
+      derives-cut = read-refused true 11 o 2 (cut-is true 11 o refl s) (lending (stepsLent steps) (callIn 11 o)) (holding (directoryIn counts rows) [] []) (λ z. omega arith)
+
+      pub settle-cut : (p c : List ℤ) → Settles counts rows p c o steps code p c steps
+      settle-cut p c =
+          let f : fits counts rows ≡ true = fit in
+          let x = settles-cut p c in
+          rw (f, x) (q, refl, refl, no-steps steps)
+
+      pub derive-cut : Derives counts rows o steps code steps
+      derive-cut =
+          let f : fits counts rows ≡ true = fit in
+          let x = derives-cut in
+          rw (f, x) (q, no-steps steps)
+
     module _ (d : Directory) (e : d ≡ directoryIn counts rows) where
       -- ---- an entry
 
-      module _ (tag : ℕ) (o : List ℕ) (r : Entered) where
-        entered-is : r ≡ enteredOn d (rowOf tag o) → r ≡ enters counts rows tag o
+      module _ (tag : ℕ) (o : List ℕ) (n : ℕ) (m : n ≡ lowest (readConditions (isEntry tag) tag o)) (z : n ≡ 0) (part : List ℕ) (p : part ≡ take (width tag) o) (r : Entered)
+          (s : r ≡ enteredBy (desk (callOf tag part) (holding d [] []))) where
+        entered-is : r ≡ enteredBy (enters counts rows tag o)
         unfolding enters
-        entered-is p = p ∙ ap (λ (x : Directory). enteredOn x (rowOf tag o)) e
+        entered-is = s ∙ rw (e, p) (ap enteredBy (sym (read-passed (isEntry tag) tag o n m (callIn tag o) (holding (directoryIn counts rows) [] []) z)))
 
-        pub entered : (code : ℕ) (left bytes : List ℕ) → r ≡ enteredOn d (rowOf tag o) → code ≡ codeOf (r .answer) → left ≡ filled countsLength (countsOf (r .directory)) counts
-            → bytes ≡ filled rowsLength (bytesOf (r .directory)) rows
-            → (code ≡ cond (fits counts rows) (codeOf (enters counts rows tag o .answer)) misfit)
-            × (left ≡ cond (fits counts rows) (countsOf (enters counts rows tag o .directory)) counts)
-            × (bytes ≡ cond (fits counts rows) (bytesOf (enters counts rows tag o .directory)) rows)
-        entered code left bytes p c l b =
+        answer-is : r .answer ≡ enters counts rows tag o .answer
+        answer-is = ap (λ (x : Entered). x .answer) entered-is
+
+        directory-is : r .directory ≡ enters counts rows tag o .store .directory
+        directory-is = ap (λ (x : Entered). x .directory) entered-is
+
+        pub entry-refused : isAccepted (r .answer) ≡ false → (code : ℕ) → code ≡ codeOf (r .answer) → Enters counts rows tag o code counts rows
+        entry-refused a code q =
             let f : fits counts rows ≡ true = fit in
-            let i = entered-is p in (
-              rw f (c ∙ ap (λ (x : Entered). codeOf (x .answer)) i),
-              rw f (l ∙ sym (fills countsLength (countsOf (r .directory)) counts h) ∙ ap (λ (x : Entered). countsOf (x .directory)) i),
-              rw f (b ∙ sym (fills rowsLength (bytesOf (r .directory)) rows k) ∙ ap (λ (x : Entered). bytesOf (x .directory)) i),
+            let b : isAccepted (enters counts rows tag o .answer) ≡ false = sym (ap isAccepted answer-is) ∙ a in
+            (rw f (q ∙ ap codeOf answer-is), rw (f, b), rw (f, b))
+
+        pub entry-accepted : isAccepted (r .answer) ≡ true → (code : ℕ) (left bytes : List ℕ) → code ≡ codeOf (r .answer)
+            → left ≡ filled countsLength (countsOf (r .directory)) counts → bytes ≡ filled rowsLength (bytesOf (r .directory)) rows
+            → Enters counts rows tag o code left bytes
+        entry-accepted a code left bytes q l b =
+            let f : fits counts rows ≡ true = fit in
+            let y : isAccepted (enters counts rows tag o .answer) ≡ true = sym (ap isAccepted answer-is) ∙ a in (
+              rw f (q ∙ ap codeOf answer-is),
+              rw (f, y) (l ∙ sym (fills countsLength (countsOf (r .directory)) counts h) ∙ ap countsOf directory-is),
+              rw (f, y) (b ∙ sym (fills rowsLength (bytesOf (r .directory)) rows k) ∙ ap bytesOf directory-is),
             )
 
       -- ---- a move or payment
 
-      module _ (positions cash : List ℤ) where
-        moves-is : (tag : ℕ) (o : List ℕ) → desk (moveOf tag o) (holding d positions cash) ≡ moves counts rows positions cash tag o
+      module _ (positions cash : List ℤ) (tag : ℕ) (o : List ℕ) (n : ℕ) (m : n ≡ lowest (readConditions (isMove tag) tag o)) where
+        moves-is : n ≡ 0 → (part : List ℕ) → part ≡ take (width tag) o → desk (callOf tag part) (holding d positions cash) ≡ moves counts rows positions cash tag o
         unfolding moves
-        moves-is tag o = ap (λ (x : Directory). desk (moveOf tag o) (holding x positions cash)) e
+        moves-is z part p = rw (e, p) (sym (read-passed (isMove tag) tag o n m (callIn tag o) (holding (directoryIn counts rows) positions cash) z))
 
-        pub moved : (tag : ℕ) (o : List ℕ) (r : Answer) (code : ℕ) (p c : List ℤ) → Leaves (moveOf tag o) (holding d positions cash) r p c → code ≡ codeOf r
-            → (code ≡ cond (fits counts rows) (codeOf (moves counts rows positions cash tag o .answer)) misfit)
-            × (p ≡ cond (fits counts rows) (moves counts rows positions cash tag o .store .positions) positions)
-            × (c ≡ cond (fits counts rows) (moves counts rows positions cash tag o .store .cash) cash)
-        moved tag o r code p c l q =
+        pub moved : n ≡ 0 → (part : List ℕ) → part ≡ take (width tag) o → (r : Answer) (code : ℕ) (p c : List ℤ)
+            → Leaves (callOf tag part) (holding d positions cash) r p c → code ≡ codeOf r → Moves counts rows positions cash tag o code p c
+        moved z part g r code p c l q =
             let f : fits counts rows ≡ true = fit in
-            let i = moves-is tag o in (
+            let i = moves-is z part g in (
               rw f (q ∙ ap codeOf (l .0) ∙ ap (λ (x : Outcome). codeOf (x .answer)) i),
               rw f (l .1 ∙ ap (λ (x : Outcome). x .store .positions) i),
               rw f (l .2 ∙ ap (λ (x : Outcome). x .store .cash) i),
@@ -107,45 +179,51 @@ module _ (counts rows : List ℕ) where
 
       -- ---- a settlement or derivation
 
-      module _ (lent : ℕ) (o steps : List ℕ) (m : length steps ≡ stepsLength) (h₁ h₂ : Half) (q₁ : h₁ ≡ halfAt o 0) (q₂ : h₂ ≡ halfAt o 20) (r : Reply) (code : ℕ) (bytes : List ℕ)
-          (a : (code ≡ codeOf (r .answer)) × (bytes ≡ filled stepsLength (bytesOfSteps (r .steps)) steps)) where
-        all-fit : fitsSteps counts rows steps ≡ true
-        all-fit = and-true _ _ fit (eqb-true (length steps) stepsLength m)
+      module _ (o steps : List ℕ) where
+        module _ (s : 40 ≤ length o) (part₁ part₂ : List ℕ) (p₁ : part₁ ≡ take 40 o) (p₂ : part₂ ≡ take 40 o) (h₁ h₂ : Half) (q₁ : h₁ ≡ halfAt part₁ 0) (q₂ : h₂ ≡ halfAt part₂ 20)
+            (r : Reply) (code : ℕ) (bytes : List ℕ) (a : (code ≡ codeOf (r .answer)) × (bytes ≡ stepsPut (r .steps) steps)) where
+          settles-is : (p c : List ℤ) → settlementOn d p c (stepsLent steps) h₁ h₂ ≡ settles counts rows p c o steps
+          unfolding settles callOf
+          settles-is p c =
+              rw (e, q₁, q₂, p₁, p₂)
+              (sym (read-passed true 10 o 0 (none-is true 10 o refl s) (lending (stepsLent steps) (callIn 10 o)) (holding (directoryIn counts rows) p c) refl))
 
-        replied : (x : Outcome) → r ≡ replyOf x
-            → (code ≡ cond (fitsSteps counts rows steps) (codeOf (x .answer)) misfit) × (bytes ≡ cond (fitsSteps counts rows steps) (bytesOfSteps (replyOf x .steps)) steps)
-        replied x p =
-            let f : fitsSteps counts rows steps ≡ true = all-fit in (
-              rw f (a .0 ∙ ap (λ (y : Reply). codeOf (y .answer)) p),
-              rw f (a .1 ∙ sym (fills stepsLength (bytesOfSteps (r .steps)) steps m) ∙ ap (λ (y : Reply). bytesOfSteps (y .steps)) p),
-            )
+          derives-is : derivationOn d (stepsLent steps) h₁ h₂ ≡ derives counts rows o steps
+          unfolding derives callOf
+          derives-is =
+              rw (e, q₁, q₂, p₁, p₂)
+              (sym (read-passed true 11 o 0 (none-is true 11 o refl s) (lending (stepsLent steps) (callIn 11 o)) (holding (directoryIn counts rows) [] []) refl))
 
-        settles-is : (positions cash : List ℤ) → settlementOn d positions cash (blanks lent) h₁ h₂ ≡ settles counts rows positions cash lent o
-        unfolding settles
-        settles-is positions cash = rw (e, q₁, q₂)
+          -- the bytes of the K steps, of which there are no more than were lent
+          written : (x : Outcome) → r ≡ replyOf x → r .steps .count ≤ 16 → r .steps .count ≤ length (stepsLent steps) → bytes ≡ withSteps (chainOf x) steps
+          written x i few room =
+              let l : r .steps ≡ byValue (chainOf x) = ap (λ (y : Reply). y .steps) i in
+              a .1 ∙ rw l (all-steps (chainOf x) steps (rw l at few) (rw (l, length-replicate (length steps / 5) (step 0 0 0)) at room))
 
-        derives-is : derivationOn d (blanks lent) h₁ h₂ ≡ derives counts rows lent o
-        unfolding derives
-        derives-is = rw (e, q₁, q₂)
+          pub derived : r ≡ replyOf (derivationOn d (stepsLent steps) h₁ h₂) → Derives counts rows o steps code bytes
+          derived i =
+              let f : fits counts rows ≡ true = fit in
+              let v = Lent.serves (holding d [] []) h₁ h₂ Lent.derives (stepsLent steps) (stepsLent steps) refl r i in
+              let w = written (derivationOn d (stepsLent steps) h₁ h₂) i (v .few) (v .room) in (
+                rw f (a .0 ∙ ap (λ (y : Reply). codeOf (y .answer)) i ∙ ap (λ (x : Outcome). codeOf (x .answer)) derives-is),
+                rw f (w ∙ ap (λ (x : Outcome). withSteps (chainOf x) steps) derives-is),
+              )
 
-        pub derived : r ≡ replyOf (derivationOn d (blanks lent) h₁ h₂)
-            → (code ≡ cond (fitsSteps counts rows steps) (codeOf (derives counts rows lent o .answer)) misfit)
-            × (bytes ≡ cond (fitsSteps counts rows steps) (bytesOfSteps (replyOf (derives counts rows lent o) .steps)) steps)
-        derived p = replied (derives counts rows lent o) (p ∙ ap replyOf derives-is)
-
-        pub settled : (positions cash p c : List ℤ)
-            → (r ≡ replyOf (settlementOn d positions cash (blanks lent) h₁ h₂))
-            × (p ≡ settlementOn d positions cash (blanks lent) h₁ h₂ .store .positions)
-            × (c ≡ settlementOn d positions cash (blanks lent) h₁ h₂ .store .cash)
-            → (code ≡ cond (fitsSteps counts rows steps) (codeOf (settles counts rows positions cash lent o .answer)) misfit)
-            × (p ≡ cond (fitsSteps counts rows steps) (settles counts rows positions cash lent o .store .positions) positions)
-            × (c ≡ cond (fitsSteps counts rows steps) (settles counts rows positions cash lent o .store .cash) cash)
-            × (bytes ≡ cond (fitsSteps counts rows steps) (bytesOfSteps (replyOf (settles counts rows positions cash lent o) .steps)) steps)
-        settled positions cash p c s =
-            let f : fitsSteps counts rows steps ≡ true = all-fit in
-            let i = settles-is positions cash in
-            let t = replied (settles counts rows positions cash lent o) (s .0 ∙ ap replyOf i) in
-            (t .0, rw f (s .1 ∙ ap (λ (x : Outcome). x .store .positions) i), rw f (s .2 ∙ ap (λ (x : Outcome). x .store .cash) i), t .1)
+          pub settled : (positions cash p c : List ℤ)
+              → (r ≡ replyOf (settlementOn d positions cash (stepsLent steps) h₁ h₂))
+              × (p ≡ settlementOn d positions cash (stepsLent steps) h₁ h₂ .store .positions)
+              × (c ≡ settlementOn d positions cash (stepsLent steps) h₁ h₂ .store .cash)
+              → Settles counts rows positions cash o steps code p c bytes
+          settled positions cash p c i =
+              let f : fits counts rows ≡ true = fit in
+              let v = Lent.serves (holding d positions cash) h₁ h₂ Lent.settles (stepsLent steps) (stepsLent steps) refl r (i .0) in
+              let w = written (settlementOn d positions cash (stepsLent steps) h₁ h₂) (i .0) (v .few) (v .room) in
+              let g = settles-is positions cash in (
+                rw f (a .0 ∙ ap (λ (y : Reply). codeOf (y .answer)) (i .0) ∙ ap (λ (x : Outcome). codeOf (x .answer)) g),
+                rw f (i .1 ∙ ap (λ (x : Outcome). x .store .positions) g),
+                rw f (i .2 ∙ ap (λ (x : Outcome). x .store .cash) g),
+                rw f (w ∙ ap (λ (x : Outcome). withSteps (chainOf x) steps) g),
+              )
 
       -- ---- the total of a security
 

@@ -1,3 +1,3 @@
-pub mod Tags
+pub mod Read
 pub mod Moves
 pub mod Exported

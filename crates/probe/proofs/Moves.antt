@@ -1,18 +1,25 @@
--- A bring-in, take-out, pay-in or pay-out on the whole store is the one on what its function is handed; the rest of the store stays.
+-- A command's call is the one that its function makes. A bring-in, take-out, pay-in or pay-out on the whole store is the one on what its function is
+-- handed; the rest of the store stays.
 use Prim.Native.Nat.{ℕ, zero, suc}
 use mathlib.Core.Path.{_≡_, refl, ap, _∙_}
 use mathlib.Core.List.{List, []}
 use lib.IntN.{ℤ}
 use Rattle.rules.specs.declared.Directory.{Directory}
 use Rattle.rules.specs.declared.Answer.{Answer}
+use Rattle.rules.specs.declared.Entered.{Entered}
 use Rattle.rules.specs.Tests.{lowest}
+use Rattle.rules.specs.Entries.{Row}
 use Rattle.rules.specs.Booking.{Way}
-use Rattle.rules.specs.Calls.{Store, Call, move, pay, outcome, misfit, deskConditions, desk}
-use Rattle.rules.specs.Outcomes.{holding, movementOn, paymentOn}
+use Rattle.rules.specs.Calls.{Store, Call, enter, move, pay, outcome, misfit, deskConditions, desk}
+use Rattle.rules.specs.Outcomes.{holding, enteredOn, movementOn, paymentOn}
+use Rattle.probe.specs.Exports.{enteredBy}
 
 -- what a call on the store answers and leaves
 abbrev pub Leaves : Call → Store → Answer → List ℤ → List ℤ → Type 0
 Leaves k st r p c = (r ≡ desk k st .answer) × (p ≡ desk k st .store .positions) × (c ≡ desk k st .store .cash)
+
+pub entered-by : (d : Directory) (k : Call) (x : Row) → enter x ≡ k → (r : Entered) → r ≡ enteredOn d x → r ≡ enteredBy (desk k (holding d [] []))
+entered-by d k x e r q = q ∙ ap (λ (y : Call). enteredBy (desk y (holding d [] []))) e
 
 module _ (d : Directory) (p c : List ℤ) where
   moved-by : (n : ℕ) (w : Way) (a s q : ℕ)

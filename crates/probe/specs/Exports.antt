@@ -1,112 +1,142 @@
 -- What each export answers and leaves, by the buffers that it is handed. Assumes nothing.
-use Prim.Native.Nat.{ℕ, _+_}
+use Prim.Native.Nat.{ℕ, _/_}
 use mathlib.Core.Path.{_≡_}
-use mathlib.Core.Bool.{Bool, _&&_, not, cond}
-use mathlib.Core.List.{List}
+use mathlib.Core.Bool.{Bool, true, _&&_, not, cond}
+use mathlib.Core.List.{List, [], _∷_, _++_}
+use mathlib.Core.Option.{Option, none, some}
 use lib.IntN.{ℤ}
-use lib.Dec.{eqb}
-use lib.ListN.{length, set}
+use lib.Dec.{eqb, leb, ltb}
+use lib.ListN.{length, set, take}
+use Rattle.rules.specs.declared.Step.{Step}
+use Rattle.rules.specs.declared.Entered.{Entered}
 use Rattle.rules.specs.declared.SecurityTotal.{SecurityTotal}
 use Rattle.rules.specs.declared.SecurityTotal.the-variants.{SumUnits, NoUnits}
 use Rattle.rules.specs.declared.CashTotal.{CashTotal}
 use Rattle.rules.specs.declared.CashTotal.the-variants.{SumCents, NoCents}
-use Rattle.rules.specs.declared.Entered.{Entered}
-use Rattle.rules.specs.Entries.{Row, csdRow, securityRow}
-use Rattle.rules.specs.Booking.{incoming, outgoing}
-use Rattle.rules.specs.Calls.{Call, Outcome, desk, deskSecurityTotal, deskCashTotal}
-use Rattle.rules.specs.Stream.{accountAt, pairAt, linkAt, moveAt, payAt, halfAt}
-use Rattle.wire.specs.Operands.{csdIn, securityIn}
-use Rattle.rules.specs.Outcomes.{holding, enteredOn, settlementOn, derivationOn, blanks, replyOf}
-use Rattle.probe.specs.Codes.{codeOf}
-use Rattle.layout.specs.Layout.{countsLength, rowsLength, stepsLength, directoryIn, countsOf, bytesOf, bytesOfSteps}
+use Rattle.rules.specs.Tests.{Condition, _when_, lowest}
+use Rattle.rules.specs.Calls.{Store, Call, enter, move, pay, settle, derive, Outcome, outcome, deskConditions, isAccepted, countOf}
+use Rattle.rules.specs.Calls.{deskSecurityTotal, deskCashTotal}
+use Rattle.rules.specs.Stream.{widthOf, callOf}
+use Rattle.rules.specs.Outcomes.{holding, blanks}
+use Rattle.layout.specs.Layout.{countsLength, rowsLength, stepWidth, directoryIn, countsOf, bytesOf, withSteps}
+use Rattle.probe.specs.Codes.{misfit, codeOf, unitsCode, centsCode}
 
--- the answer where the buffers do not fit
-abbrev pub misfit : ℕ
-misfit = 1280
+-- ---- what is handed in
 
--- five counts and 2,368 bytes
+-- five counts and 2,368 bytes stand for a directory
 abbrev pub fits : List ℕ → List ℕ → Bool
 fits counts rows = eqb (length counts) countsLength && eqb (length rows) rowsLength
 
--- and 80 bytes for the steps
-abbrev pub fitsSteps : List ℕ → List ℕ → List ℕ → Bool
-fitsSteps counts rows steps = fits counts rows && eqb (length steps) stepsLength
-
--- and a place for the sum
+-- and there is a place for the sum
 abbrev pub fitsSum : List ℕ → List ℕ → List ℤ → Bool
 fitsSum counts rows sum = fits counts rows && not (eqb (length sum) 0)
 
--- the row of 01 to 05, where any other byte counts as 05
-abbrev pub rowOf : ℕ → List ℕ → Row
-rowOf tag o =
-    cond (eqb tag 1) (csdRow (csdIn o)) (cond (eqb tag 2) (securityRow (securityIn o)) (cond (eqb tag 3) (accountAt o) (cond (eqb tag 4) (pairAt o) (linkAt o))))
+-- 01 to 05 enter a row
+abbrev pub isEntry : ℕ → Bool
+isEntry tag = leb 1 tag && leb tag 5
 
--- the call of 06 to 09, where any other byte counts as 09
-abbrev pub moveOf : ℕ → List ℕ → Call
-moveOf tag o = cond (eqb tag 6) (moveAt incoming o) (cond (eqb tag 7) (moveAt outgoing o) (cond (eqb tag 8) (payAt incoming o) (payAt outgoing o)))
+-- 06 to 09 bring in, take out, pay in, pay out
+abbrev pub isMove : ℕ → Bool
+isMove tag = leb 6 tag && leb tag 9
 
--- what an entry into the directory that the buffers stand for answers and leaves
-unfoldable pub enters : List ℕ → List ℕ → ℕ → List ℕ → Entered
-enters counts rows tag o = enteredOn (directoryIn counts rows) (rowOf tag o)
+-- as many bytes as are asked for, none for an unknown byte
+abbrev pub asked : Option ℕ → ℕ
+asked none = 0
+asked (some w) = w
 
--- what a bring-in, take-out, pay-in or pay-out answers and leaves
+-- how many operand bytes a command byte asks for
+abbrev pub width : ℕ → ℕ
+width tag = asked (widthOf tag)
+
+-- the call of a command byte; its operands are the first of the bytes
+abbrev pub callIn : ℕ → List ℕ → Call
+callIn tag o = callOf tag (take (width tag) o)
+
+-- the call with the step list that it is lent
+abbrev pub lending : List Step → Call → Call
+lending xs (enter x) = enter x
+lending xs (move w a s q) = move w a s q
+lending xs (pay w a m) = pay w a m
+lending xs (settle h g lent) = settle h g xs
+lending xs (derive h g lent) = derive h g xs
+
+-- a step for each five bytes lent; what they hold counts for nothing
+abbrev pub stepsLent : List ℕ → List Step
+stepsLent steps = blanks (length steps / stepWidth)
+
+-- ---- what a call on a store answers and leaves
+
+-- 1: "unknown byte"; 2: "operands cut short"
+abbrev pub readConditions : Bool → ℕ → List ℕ → List Condition
+readConditions known tag o = 1 when not known ∷ 2 when ltb (length o) (width tag) ∷ []
+
+-- 1 and 2, then the call's own 3 to 22
+unfoldable pub obeyed : Bool → ℕ → List ℕ → Call → Store → Outcome
+obeyed known tag o k st = outcome (lowest (readConditions known tag o ++ deskConditions k st)) k st
+
+-- an entry's outcome: its answer, and the directory after it
+abbrev pub enteredBy : Outcome → Entered
+enteredBy x = record { answer = x .answer; directory = x .store .directory }
+
+-- an entry into the directory that the buffers stand for
+unfoldable pub enters : List ℕ → List ℕ → ℕ → List ℕ → Outcome
+enters counts rows tag o = obeyed (isEntry tag) tag o (callIn tag o) (holding (directoryIn counts rows) [] [])
+
+-- a bring-in, take-out, pay-in or pay-out
 unfoldable pub moves : List ℕ → List ℕ → List ℤ → List ℤ → ℕ → List ℕ → Outcome
-moves counts rows positions cash tag o = desk (moveOf tag o) (holding (directoryIn counts rows) positions cash)
+moves counts rows p c tag o = obeyed (isMove tag) tag o (callIn tag o) (holding (directoryIn counts rows) p c)
 
--- what a settlement that is lent n steps answers and leaves
-unfoldable pub settles : List ℕ → List ℕ → List ℤ → List ℤ → ℕ → List ℕ → Outcome
-settles counts rows positions cash n o = settlementOn (directoryIn counts rows) positions cash (blanks n) (halfAt o 0) (halfAt o 20)
+-- a settlement, 0A
+unfoldable pub settles : List ℕ → List ℕ → List ℤ → List ℤ → List ℕ → List ℕ → Outcome
+settles counts rows p c o steps = obeyed true 10 o (lending (stepsLent steps) (callIn 10 o)) (holding (directoryIn counts rows) p c)
 
--- what a derivation that is lent n steps answers and leaves
-unfoldable pub derives : List ℕ → List ℕ → ℕ → List ℕ → Outcome
-derives counts rows n o = derivationOn (directoryIn counts rows) (blanks n) (halfAt o 0) (halfAt o 20)
+-- a derivation, 0B
+unfoldable pub derives : List ℕ → List ℕ → List ℕ → List ℕ → Outcome
+derives counts rows o steps = obeyed true 11 o (lending (stepsLent steps) (callIn 11 o)) (holding (directoryIn counts rows) [] [])
 
--- a total as a number, and the list whose first place holds the sum: 1024 where there is one, else 768 and the refusal
-abbrev pub unitsCode : SecurityTotal → ℕ
-unitsCode (SumUnits x) = 1024
-unitsCode (NoUnits n) = 768 + n
+-- the chain's K steps; a refusal has none
+abbrev pub chainOf : Outcome → List Step
+chainOf x = take (countOf (x .answer)) (x .steps)
 
+-- the list whose first place takes the total of a security; a refusal leaves it
 abbrev pub unitsLeft : SecurityTotal → List ℤ → List ℤ
 unitsLeft (SumUnits x) sum = set sum 0 (x .0)
 unitsLeft (NoUnits n) sum = sum
 
-abbrev pub centsCode : CashTotal → ℕ
-centsCode (SumCents x) = 1024
-centsCode (NoCents n) = 768 + n
-
+-- the same for cash
 abbrev pub centsLeft : CashTotal → List ℤ → List ℤ
 centsLeft (SumCents x) sum = set sum 0 (x .0)
 centsLeft (NoCents n) sum = sum
 
 -- ---- what each export promises: its number r, and each buffer after it
 
--- 01 to 05
+-- counts and rows are written where the entry is accepted
 abbrev pub Enters : List ℕ → List ℕ → ℕ → List ℕ → ℕ → List ℕ → List ℕ → Type 0
 Enters counts rows tag o r counts′ rows′ =
     (r ≡ cond (fits counts rows) (codeOf (enters counts rows tag o .answer)) misfit)
-    × (counts′ ≡ cond (fits counts rows) (countsOf (enters counts rows tag o .directory)) counts)
-    × (rows′ ≡ cond (fits counts rows) (bytesOf (enters counts rows tag o .directory)) rows)
+    × (counts′ ≡ cond (fits counts rows && isAccepted (enters counts rows tag o .answer)) (countsOf (enters counts rows tag o .store .directory)) counts)
+    × (rows′ ≡ cond (fits counts rows && isAccepted (enters counts rows tag o .answer)) (bytesOf (enters counts rows tag o .store .directory)) rows)
 
--- 06 to 09
+-- positions and cash are those of the store after the call
 abbrev pub Moves : List ℕ → List ℕ → List ℤ → List ℤ → ℕ → List ℕ → ℕ → List ℤ → List ℤ → Type 0
 Moves counts rows p c tag o r p′ c′ =
     (r ≡ cond (fits counts rows) (codeOf (moves counts rows p c tag o .answer)) misfit)
     × (p′ ≡ cond (fits counts rows) (moves counts rows p c tag o .store .positions) p)
     × (c′ ≡ cond (fits counts rows) (moves counts rows p c tag o .store .cash) c)
 
--- a settlement that is lent n steps
-abbrev pub Settles : List ℕ → List ℕ → List ℤ → List ℤ → ℕ → List ℕ → List ℕ → ℕ → List ℤ → List ℤ → List ℕ → Type 0
-Settles counts rows p c n o steps r p′ c′ steps′ =
-    (r ≡ cond (fitsSteps counts rows steps) (codeOf (settles counts rows p c n o .answer)) misfit)
-    × (p′ ≡ cond (fitsSteps counts rows steps) (settles counts rows p c n o .store .positions) p)
-    × (c′ ≡ cond (fitsSteps counts rows steps) (settles counts rows p c n o .store .cash) c)
-    × (steps′ ≡ cond (fitsSteps counts rows steps) (bytesOfSteps (replyOf (settles counts rows p c n o) .steps)) steps)
+-- likewise, and the K steps stand at the front of the bytes lent for them, "the rest untouched"
+abbrev pub Settles : List ℕ → List ℕ → List ℤ → List ℤ → List ℕ → List ℕ → ℕ → List ℤ → List ℤ → List ℕ → Type 0
+Settles counts rows p c o steps r p′ c′ steps′ =
+    (r ≡ cond (fits counts rows) (codeOf (settles counts rows p c o steps .answer)) misfit)
+    × (p′ ≡ cond (fits counts rows) (settles counts rows p c o steps .store .positions) p)
+    × (c′ ≡ cond (fits counts rows) (settles counts rows p c o steps .store .cash) c)
+    × (steps′ ≡ cond (fits counts rows) (withSteps (chainOf (settles counts rows p c o steps)) steps) steps)
 
--- a derivation that is lent n steps
-abbrev pub Derives : List ℕ → List ℕ → ℕ → List ℕ → List ℕ → ℕ → List ℕ → Type 0
-Derives counts rows n o steps r steps′ =
-    (r ≡ cond (fitsSteps counts rows steps) (codeOf (derives counts rows n o .answer)) misfit)
-    × (steps′ ≡ cond (fitsSteps counts rows steps) (bytesOfSteps (replyOf (derives counts rows n o) .steps)) steps)
+-- the steps alone
+abbrev pub Derives : List ℕ → List ℕ → List ℕ → List ℕ → ℕ → List ℕ → Type 0
+Derives counts rows o steps r steps′ =
+    (r ≡ cond (fits counts rows) (codeOf (derives counts rows o steps .answer)) misfit)
+    × (steps′ ≡ cond (fits counts rows) (withSteps (chainOf (derives counts rows o steps)) steps) steps)
 
 -- the total of a security
 abbrev pub TotalsUnits : List ℕ → List ℕ → List ℤ → ℕ → List ℤ → ℕ → List ℤ → Type 0

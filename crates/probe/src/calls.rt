@@ -1,8 +1,9 @@
-// The calls, told by the byte of the command in the stream. An answer is a number: 256 for each kind before it, and what it carries, at
-// most 255. Where the buffers do not fit it is 1280, and nothing is changed.
+// The calls, told by the byte of the command in the stream, with the bytes of its operands. An answer is a number: 256 for each kind before it,
+// and what it carries, at most 255. Counts and rows that do not stand for a directory are answered 1280, before all else; then come 1 and 2, by the
+// byte and its operands, and then what the desk's call answers. On a refusal everything lent is as it was.
 use layout::COUNTS;
 use layout::ROWS;
-use layout::STEP_BYTES;
+use layout::STEP_WIDTH;
 use layout::read_directory;
 use layout::write_counts;
 use layout::write_rows;
@@ -13,19 +14,29 @@ use rules::Directory;
 use rules::Entered;
 use rules::Reply;
 use rules::SecurityTotal;
+use wire::commands::Width;
+use wire::commands::width_of;
 use wire::operands;
 ghost use mathlib.Core.Path.{_≡_};
+ghost use mathlib.Core.Bool.{true};
+ghost use mathlib.Core.List.{[]};
+ghost use mathlib.Core.Option.{some};
+ghost use lib.ListN.{length};
 ghost use Prim.Native.Nat.{_+_, _<_};
-ghost use Rattle.rules.specs.Calls.{desk};
-ghost use Rattle.rules.specs.Stream.{transcript};
+ghost use Rattle.rules.specs.Tests.{lowest};
+ghost use Rattle.rules.specs.Calls.{desk, isAccepted};
+ghost use Rattle.rules.specs.Stream.{widthOf, callOf, transcript, Printed};
+ghost use Rattle.rules.specs.Outcomes.{holding};
+ghost use Rattle.layout.specs.Layout.{stepsPut};
 ghost use Rattle.probe.specs.Codes.{capped, codeOf};
-ghost use Rattle.rules.specs.Stream.{Printed};
-ghost use Rattle.rules.specs.Outcomes.{holding, enteredOn};
-ghost use Rattle.layout.specs.Layout.{stepsLength, bytesOfSteps, filled};
-ghost use Rattle.probe.specs.Exports.{rowOf, moveOf, Enters, Moves, Settles, Derives, TotalsUnits, TotalsCents};
+ghost use Rattle.probe.specs.Exports.{isEntry, isMove, width, readConditions, enteredBy};
+ghost use Rattle.probe.specs.Exports.{Enters, Moves, Settles, Derives, TotalsUnits, TotalsCents};
 
-// The buffers do not fit.
+// Counts, rows or the place of a sum do not fit.
 const MISFIT: u64 = 1280;
+
+// Bytes of two halves, the operands of 0A and 0B.
+const HALVES: usize = 40;
 
 fn small(k: usize) -> u64
     ensures { λ r. ⌜ (r ≡ capped k) × (r < 256) ⌝ }
@@ -45,25 +56,76 @@ fn code_of(answer: Answer) -> u64
     }
 }
 
-fn entry(directory: Directory, tag: u8, bytes: &[u8]) -> Entered
-    ensures { λ r. ⌜ r ≡ enteredOn directory (rowOf tag (now (bytes .entry))) ⌝ }
+fn accepted(answer: Answer) -> bool
+    ensures { λ r. ⌜ r ≡ isAccepted answer ⌝ }
 {
-    if tag == 1 {
-        return desk::enter_csd(directory, operands::decode_csd(bytes));
+    match answer {
+        Answer::Accepted => true,
+        Answer::Booked(_) => true,
+        Answer::Chained(_) => true,
+        Answer::Refused(_) => false,
     }
-    if tag == 2 {
-        return desk::enter_security(directory, operands::decode_security(bytes));
-    }
-    if tag == 3 {
-        return desk::enter_account(directory, operands::decode_account(bytes));
-    }
-    if tag == 4 {
-        return desk::enter_pair(directory, operands::decode_pair(bytes));
-    }
-    desk::enter_link(directory, operands::decode_link(bytes))
 }
 
-// 01 to 05, where any other byte counts as 05: the counts and rows become those of the directory after it.
+// ---- a command byte and its operands
+
+fn is_entry(tag: u8) -> bool
+    ensures { λ r. ⌜ r ≡ isEntry tag ⌝ }
+{
+    (1 <= tag) & (tag <= 5)
+}
+
+fn is_move(tag: u8) -> bool
+    ensures { λ r. ⌜ r ≡ isMove tag ⌝ }
+{
+    (6 <= tag) & (tag <= 9)
+}
+
+// How many operand bytes a command byte asks for.
+fn width(tag: u8) -> usize
+    ensures { λ r. ⌜ r ≡ width tag ⌝ }
+{
+    match width_of(tag) {
+        Width::Bytes(bytes) => bytes,
+        Width::NoCommand => 0,
+    }
+}
+
+// 1 for a byte that the export does not know, 2 for operands that are cut short, else 0.
+fn read_refusal(known: bool, tag: u8, bytes: &[u8]) -> u8
+    ensures { λ r. ⌜ r ≡ lowest (readConditions known tag (now (bytes .entry))) ⌝ }
+{
+    if !known {
+        return 1;
+    }
+    if bytes.len() < width(tag) {
+        return 2;
+    }
+    0
+}
+
+// ---- 01 to 05
+
+fn entry(directory: Directory, tag: u8, operands: &[u8]) -> Entered
+    requires { ⌜ (isEntry tag ≡ true) × (widthOf tag ≡ some (length (now operands))) ⌝ }
+    ensures { λ r. ⌜ r ≡ enteredBy (desk (callOf tag (now (operands .entry))) (holding directory [] [])) ⌝ }
+{
+    if tag == 1 {
+        return desk::enter_csd(directory, operands::decode_csd(operands));
+    }
+    if tag == 2 {
+        return desk::enter_security(directory, operands::decode_security(operands));
+    }
+    if tag == 3 {
+        return desk::enter_account(directory, operands::decode_account(operands));
+    }
+    if tag == 4 {
+        return desk::enter_pair(directory, operands::decode_pair(operands));
+    }
+    desk::enter_link(directory, operands::decode_link(operands))
+}
+
+// An accepted entry makes the counts and rows those of the directory after it.
 #[no_mangle]
 pub extern "C" fn fluzzam_enter(counts: &mut [usize], rows: &mut [u8], tag: u8, bytes: &[u8]) -> u64
     ensures { λ r. ⌜ Enters (now (counts .entry)) (now (rows .entry)) tag (now (bytes .entry)) r (now (counts .exit)) (now (rows .exit)) ⌝ }
@@ -74,41 +136,51 @@ pub extern "C" fn fluzzam_enter(counts: &mut [usize], rows: &mut [u8], tag: u8, 
     if rows.len() != ROWS {
         return MISFIT;
     }
+    let number = read_refusal(is_entry(tag), tag, bytes);
+    if number != 0 {
+        return code_of(Answer::Refused(number));
+    }
+    let end = width(tag);
     let directory = read_directory(counts, rows);
-    let entered = entry(directory, tag, bytes);
+    let entered = entry(directory, tag, &bytes[..end]);
+    let answer = entered.answer;
+    if !accepted(answer) {
+        return code_of(answer);
+    }
     write_counts(counts, entered.directory);
     write_rows(rows, entered.directory);
-    let answer = entered.answer;
     code_of(answer)
 }
+
+// ---- 06 to 09
 
 fn movement(
     directory: Directory,
     positions: &mut [i64],
     cash: &mut [i64],
     tag: u8,
-    bytes: &[u8],
+    operands: &[u8],
 ) -> Answer
-    ensures { λ r. ⌜ (r ≡ desk (moveOf tag (now (bytes .entry))) (holding directory (now (positions .entry)) (now (cash .entry))) .answer)
-        × (now (positions .exit) ≡ desk (moveOf tag (now (bytes .entry))) (holding directory (now (positions .entry)) (now (cash .entry))) .store .positions)
-        × (now (cash .exit) ≡ desk (moveOf tag (now (bytes .entry))) (holding directory (now (positions .entry)) (now (cash .entry))) .store .cash) ⌝ }
+    requires { ⌜ isMove tag ≡ true ⌝ }
+    ensures { λ r. ⌜ (r ≡ desk (callOf tag (now (operands .entry))) (holding directory (now (positions .entry)) (now (cash .entry))) .answer)
+        × (now (positions .exit) ≡ desk (callOf tag (now (operands .entry))) (holding directory (now (positions .entry)) (now (cash .entry))) .store .positions)
+        × (now (cash .exit) ≡ desk (callOf tag (now (operands .entry))) (holding directory (now (positions .entry)) (now (cash .entry))) .store .cash) ⌝ }
 {
     if tag == 6 {
-        let x = operands::decode_move(bytes);
+        let x = operands::decode_move(operands);
         return desk::bring_in(directory, positions, x.account, x.security, x.quantity);
     }
     if tag == 7 {
-        let x = operands::decode_move(bytes);
+        let x = operands::decode_move(operands);
         return desk::take_out(directory, positions, x.account, x.security, x.quantity);
     }
-    let x = operands::decode_payment(bytes);
+    let x = operands::decode_payment(operands);
     if tag == 8 {
         return desk::pay_in(directory, cash, x.account, x.amount);
     }
     desk::pay_out(directory, cash, x.account, x.amount)
 }
 
-// 06 to 09, where any other byte counts as 09.
 #[no_mangle]
 pub extern "C" fn fluzzam_move(
     counts: &[usize],
@@ -127,30 +199,36 @@ pub extern "C" fn fluzzam_move(
     if rows.len() != ROWS {
         return MISFIT;
     }
+    let number = read_refusal(is_move(tag), tag, bytes);
+    if number != 0 {
+        return code_of(Answer::Refused(number));
+    }
+    let end = width(tag);
     let directory = read_directory(counts, rows);
-    code_of(movement(directory, positions, cash, tag, bytes))
+    code_of(movement(directory, positions, cash, tag, &bytes[..end]))
 }
 
+// ---- 0A and 0B
+
 fn replied(steps: &mut [u8], reply: Reply) -> u64
-    ensures { λ r. ⌜ (r ≡ codeOf (reply .answer)) × (now (steps .exit) ≡ filled stepsLength (bytesOfSteps (reply .steps)) (now (steps .entry))) ⌝ }
+    ensures { λ r. ⌜ (r ≡ codeOf (reply .answer)) × (now (steps .exit) ≡ stepsPut (reply .steps) (now (steps .entry))) ⌝ }
 {
     write_steps(steps, reply.steps);
     let answer = reply.answer;
     code_of(answer)
 }
 
-// 0A, with `lent` steps lent. The steps of the chain go to `steps`.
+// 0A. A step is lent for each five bytes of `steps`; the K steps of the chain go to its front.
 #[no_mangle]
 pub extern "C" fn fluzzam_settle(
     counts: &[usize],
     rows: &[u8],
     positions: &mut [i64],
     cash: &mut [i64],
-    lent: usize,
     bytes: &[u8],
     steps: &mut [u8],
 ) -> u64
-    ensures { λ r. ⌜ Settles (now (counts .entry)) (now (rows .entry)) (now (positions .entry)) (now (cash .entry)) lent (now (bytes .entry))
+    ensures { λ r. ⌜ Settles (now (counts .entry)) (now (rows .entry)) (now (positions .entry)) (now (cash .entry)) (now (bytes .entry))
         (now (steps .entry)) r (now (positions .exit)) (now (cash .exit)) (now (steps .exit)) ⌝ }
 {
     if counts.len() != COUNTS {
@@ -159,12 +237,13 @@ pub extern "C" fn fluzzam_settle(
     if rows.len() != ROWS {
         return MISFIT;
     }
-    if steps.len() != STEP_BYTES {
-        return MISFIT;
+    if bytes.len() < HALVES {
+        return code_of(Answer::Refused(2));
     }
     let directory = read_directory(counts, rows);
-    let delivering = operands::decode_delivering(bytes);
-    let receiving = operands::decode_receiving(bytes);
+    let delivering = operands::decode_delivering(&bytes[..HALVES]);
+    let receiving = operands::decode_receiving(&bytes[..HALVES]);
+    let lent = steps.len() / STEP_WIDTH;
     let reply = desk::settle_reply(directory, positions, cash, lent, delivering, receiving);
     replied(steps, reply)
 }
@@ -174,11 +253,10 @@ pub extern "C" fn fluzzam_settle(
 pub extern "C" fn fluzzam_derive(
     counts: &[usize],
     rows: &[u8],
-    lent: usize,
     bytes: &[u8],
     steps: &mut [u8],
 ) -> u64
-    ensures { λ r. ⌜ Derives (now (counts .entry)) (now (rows .entry)) lent (now (bytes .entry)) (now (steps .entry)) r (now (steps .exit)) ⌝ }
+    ensures { λ r. ⌜ Derives (now (counts .entry)) (now (rows .entry)) (now (bytes .entry)) (now (steps .entry)) r (now (steps .exit)) ⌝ }
 {
     if counts.len() != COUNTS {
         return MISFIT;
@@ -186,15 +264,18 @@ pub extern "C" fn fluzzam_derive(
     if rows.len() != ROWS {
         return MISFIT;
     }
-    if steps.len() != STEP_BYTES {
-        return MISFIT;
+    if bytes.len() < HALVES {
+        return code_of(Answer::Refused(2));
     }
     let directory = read_directory(counts, rows);
-    let delivering = operands::decode_delivering(bytes);
-    let receiving = operands::decode_receiving(bytes);
+    let delivering = operands::decode_delivering(&bytes[..HALVES]);
+    let receiving = operands::decode_receiving(&bytes[..HALVES]);
+    let lent = steps.len() / STEP_WIDTH;
     let reply = desk::derive_reply(directory, lent, delivering, receiving);
     replied(steps, reply)
 }
+
+// ---- the totals and the program
 
 // The total of a security: 1024 with the sum in `sum`, or the refusal.
 #[no_mangle]

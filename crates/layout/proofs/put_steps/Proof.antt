@@ -1,23 +1,26 @@
 -- So far the first bytes of the rows stand in their place; the rest is as before.
 use borrow.Author.Needs.{needs}
 use mathlib.Core.Path.{_≡_, refl}
-use Prim.Native.Nat.{_+_, _≤_, _-_}
+use Prim.Native.Nat.{_+_, _*_, _≤_, _-_}
 use native.Mathlib.Omega.{arith}
 use lib.ListN.{length}
 use Rattle.rules.specs.Chain.{step}
-use Rattle.layout.specs.Layout.{bytesIn, stepBytes, Put, bytesOfSteps}
-use Rattle.layout.proofs.Bytes.{put-none, put-more, put-done, put-whole}
+use Rattle.layout.specs.Layout.{bytesIn, stepBytes, Put}
+use Rattle.layout.proofs.Bytes.{put-none, put-more, length-mapped, steps-done}
 use Rattle.layout.proofs.put_steps.Statement.{statement}
 use Rattle.layout.proofs.put_steps.Tie as tie
 
 abbrev Inv-loop : tie.InvT-loop
-Inv-loop bytes₀ steps j₀ bytes j = (j ≤ 80) × (length bytes₀ ≡ 80) × Put 0 j (bytesIn stepBytes (step 0 0 0) 5 (steps .rows) j) bytes₀ bytes
+Inv-loop bytes₀ steps end j₀ bytes j = (j ≤ end) × (end ≡ steps .count * 5) × (end ≤ 80) × (end ≤ length bytes₀) × Put 0 j (bytesIn stepBytes (step 0 0 0) 5 (steps .rows) j) bytes₀ bytes
 
 abbrev μ-loop : tie.MeasureT-loop
-μ-loop bytes₀ steps j₀ bytes j = 80 - j
+μ-loop bytes₀ steps end j₀ bytes j = end - j
+
+mul-end : tie.Need-mul-end Inv-loop μ-loop
+mul-end c = omega arith
 
 loop-holds : tie.Need-loop-holds Inv-loop μ-loop
-loop-holds c = (omega arith, omega arith, put-none stepBytes (step 0 0 0) 5 (c .before .args .t2 .rows) 0 (c .before .args .bytes .now) 0 refl)
+loop-holds c = (omega arith, omega arith, omega arith, omega arith, put-none stepBytes (step 0 0 0) 5 (c .before .args .t2 .rows) 0 (c .before .args .bytes .now) 0 refl)
 
 mul-step-byte : tie.Need-mul-step-byte Inv-loop μ-loop
 mul-step-byte c = omega arith
@@ -40,16 +43,19 @@ loop-less c = omega arith
 loop-again : tie.Need-loop-again Inv-loop μ-loop
 loop-again c =
     let l = c .before .before .before .loop in
-    (omega arith, l .inv .1, put-more stepBytes (step 0 0 0) 5 (c .before .before .before .before .before .args .t2 .rows) 0 (c .before .before .before .before .before .args .bytes .now) (l .j) (l .j + 1) (l .j) (c .step-byte .result) (l .bytes) (omega arith) (omega arith) (l .inv .2) (c .step-byte .ensures))
+    let a = c .before .before .before .before .before .args in
+    (omega arith, l .inv .1, l .inv .2, l .inv .3, put-more stepBytes (step 0 0 0) 5 (a .t2 .rows) 0 (a .bytes .now) (l .j) (l .j + 1) (l .j) (c .step-byte .result) (l .bytes) (omega arith) (omega arith) (l .inv .4) (c .step-byte .ensures))
 
 same-length : tie.Need-same-length Inv-loop μ-loop
 same-length c = omega arith
 
 returns : tie.Need-returns Inv-loop μ-loop
-unfolding bytesOfSteps
 returns c =
     let l = c .before .loop in
-    put-whole 80 _ (c .before .before .before .args .bytes .now) (l .bytes) (l .inv .1) (put-done stepBytes (step 0 0 0) 5 (c .before .before .before .args .t2 .rows) 0 (c .before .before .before .args .bytes .now) (l .j) 80 (l .j) 80 (l .bytes) (omega arith) (omega arith) (l .inv .2))
+    let a = c .before .before .before .args in
+    let g = c .before .before .before .good .1 .0 in
+    let n : length (a .t2 .rows) ≡ 16 = search (length-mapped, g .1 .1 .0) in
+    steps-done (a .t2 .rows) (a .t2 .count) (l .j) (a .bytes .now) (l .bytes) (omega arith) (omega arith) (l .inv .4)
 
 pub put-steps-spec : {M : Type 1} → statement M
 put-steps-spec =
@@ -57,6 +63,7 @@ put-steps-spec =
     (tie.spec
     Inv-loop
     μ-loop
+    mul-end
     loop-holds
     mul-step-byte
     element-copy-out-step-byte

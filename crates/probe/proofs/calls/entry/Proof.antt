@@ -1,9 +1,14 @@
 -- By the command's byte: the desk's entry of the row that its decoder reads.
-use mathlib.Core.Path.{ap, _∙_}
+use mathlib.Core.Path.{sym, ap, _∙_}
 use native.Mathlib.Omega.{arith}
+use Rattle.rules.specs.declared.Csd.{Csd}
+use Rattle.rules.specs.declared.Security.{Security}
 use Rattle.rules.specs.Entries.{csdRow, securityRow}
-use Rattle.rules.specs.Outcomes.{enteredOn}
-use Rattle.probe.proofs.Tags.{csd-row, security-row, account-row, pair-row, link-row}
+use Rattle.rules.specs.Calls.{enter}
+use Rattle.rules.specs.Stream.{callOf}
+use Rattle.wire.proofs.Decoded.{csd-call, security-call, account-call, pair-call, link-call}
+use Rattle.probe.proofs.Read.{entry-tag}
+use Rattle.probe.proofs.Moves.{entered-by}
 use borrow.Author.Needs.{needs}
 use Rattle.probe.proofs.calls.entry.Statement.{statement}
 use Rattle.probe.proofs.calls.entry.Tie as tie
@@ -16,8 +21,9 @@ enter-csd-requires c κs = search needs
 
 returns : tie.Need-returns
 returns c =
-    let a = c .before .before .before .before .args in
-    c .enter-csd .ensures ∙ ap (enteredOn (a .directory)) (ap csdRow (c .before .decode-csd .ensures) ∙ csd-row (a .tag) (a .bytes .now) (omega arith))
+    let s = c .before .before .before .before in
+    let a = s .args in
+    entered-by (a .directory) (callOf (a .tag) (a .operands .now)) _ (ap (λ (y : Csd). enter (csdRow y)) (c .before .decode-csd .ensures) ∙ sym (csd-call (a .tag) (a .operands .now) (omega arith) (s .pre .1))) (c .enter-csd .result) (c .enter-csd .ensures)
 
 decode-security-requires : tie.Need-decode-security-requires
 decode-security-requires c κs = search needs
@@ -27,8 +33,9 @@ enter-security-requires c κs = search needs
 
 returns-2 : tie.Need-returns-2
 returns-2 c =
-    let a = c .before .before .before .before .before .args in
-    c .enter-security .ensures ∙ ap (enteredOn (a .directory)) (ap securityRow (c .before .decode-security .ensures) ∙ security-row (a .tag) (a .bytes .now) (omega arith))
+    let s = c .before .before .before .before .before in
+    let a = s .args in
+    entered-by (a .directory) (callOf (a .tag) (a .operands .now)) _ (ap (λ (y : Security). enter (securityRow y)) (c .before .decode-security .ensures) ∙ sym (security-call (a .tag) (a .operands .now) (omega arith) (s .pre .1))) (c .enter-security .result) (c .enter-security .ensures)
 
 decode-account-requires : tie.Need-decode-account-requires
 decode-account-requires c κs = search needs
@@ -38,8 +45,9 @@ enter-account-requires c κs = search needs
 
 returns-3 : tie.Need-returns-3
 returns-3 c =
-    let a = c .before .before .before .before .before .before .args in
-    c .enter-account .ensures ∙ ap (enteredOn (a .directory)) (c .before .decode-account .ensures ∙ account-row (a .tag) (a .bytes .now) (omega arith))
+    let s = c .before .before .before .before .before .before in
+    let a = s .args in
+    entered-by (a .directory) (callOf (a .tag) (a .operands .now)) _ (ap enter (c .before .decode-account .ensures) ∙ sym (account-call (a .tag) (a .operands .now) (omega arith))) (c .enter-account .result) (c .enter-account .ensures)
 
 decode-pair-requires : tie.Need-decode-pair-requires
 decode-pair-requires c κs = search needs
@@ -49,8 +57,9 @@ enter-pair-requires c κs = search needs
 
 returns-4 : tie.Need-returns-4
 returns-4 c =
-    let a = c .before .before .before .before .before .before .before .args in
-    c .enter-pair .ensures ∙ ap (enteredOn (a .directory)) (c .before .decode-pair .ensures ∙ pair-row (a .tag) (a .bytes .now) (omega arith))
+    let s = c .before .before .before .before .before .before .before in
+    let a = s .args in
+    entered-by (a .directory) (callOf (a .tag) (a .operands .now)) _ (ap enter (c .before .decode-pair .ensures) ∙ sym (pair-call (a .tag) (a .operands .now) (omega arith))) (c .enter-pair .result) (c .enter-pair .ensures)
 
 decode-link-requires : tie.Need-decode-link-requires
 decode-link-requires c κs = search needs
@@ -60,8 +69,10 @@ enter-link-requires c κs = search needs
 
 returns-5 : tie.Need-returns-5
 returns-5 c =
-    let a = c .before .before .before .before .before .before .before .args in
-    c .enter-link .ensures ∙ ap (enteredOn (a .directory)) (c .before .decode-link .ensures ∙ link-row (a .tag) (a .bytes .now) (λ e. omega arith) (λ e. omega arith) (λ e. omega arith) (λ e. omega arith))
+    let s = c .before .before .before .before .before .before .before in
+    let a = s .args in
+    let t = entry-tag (a .tag) (s .pre .0) in
+    entered-by (a .directory) (callOf (a .tag) (a .operands .now)) _ (ap enter (c .before .decode-link .ensures) ∙ sym (link-call (a .tag) (a .operands .now) (omega arith))) (c .enter-link .result) (c .enter-link .ensures)
 
 pub entry-spec : {M : Type 1} → statement M
 entry-spec =

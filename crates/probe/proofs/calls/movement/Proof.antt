@@ -1,12 +1,13 @@
 -- By the command's byte: the desk's move or payment of what its decoder reads, on the whole store.
-use mathlib.Core.Path.{ap, _∙_}
+use mathlib.Core.Path.{sym, ap, _∙_}
 use native.Mathlib.Omega.{arith}
 use Rattle.rules.specs.Booking.{incoming, outgoing}
 use Rattle.rules.specs.Calls.{move, pay}
+use Rattle.rules.specs.Stream.{callOf}
 use Rattle.wire.specs.declared.operands.Move.{Move}
 use Rattle.wire.specs.declared.operands.Payment.{Payment}
-use Rattle.probe.specs.Exports.{moveOf}
-use Rattle.probe.proofs.Tags.{bring-in, take-out, pay-in, pay-out}
+use Rattle.wire.proofs.Decoded.{bring-in-call, take-out-call, pay-in-call, pay-out-call}
+use Rattle.probe.proofs.Read.{move-tag}
 use Rattle.probe.proofs.Moves.{moved, paid}
 use borrow.Author.Needs.{needs}
 use Rattle.probe.proofs.calls.movement.Statement.{statement}
@@ -25,9 +26,9 @@ returns : tie.Need-returns
 returns c =
     let a = c .before .before .before .before .before .before .args in
     let x = c .before .before .before .decode-move in
-    moved (a .directory) (a .positions .now) (a .cash .now) (moveOf (a .tag) (a .bytes .now)) (c .before .bring-in .result) (c .before .bring-in .last .1 .0) incoming
+    moved (a .directory) (a .positions .now) (a .cash .now) (callOf (a .tag) (a .operands .now)) (c .before .bring-in .result) (c .before .bring-in .last .1 .0) incoming
     (x .result .account) (x .result .security) (x .result .quantity)
-    (ap (λ (y : Move). move incoming (y .account) (y .security) (y .quantity)) (x .ensures) ∙ bring-in (a .tag) (a .bytes .now) (omega arith)) (c .before .bring-in .ensures)
+    (ap (λ (y : Move). move incoming (y .account) (y .security) (y .quantity)) (x .ensures) ∙ sym (bring-in-call (a .tag) (a .operands .now) (omega arith))) (c .before .bring-in .ensures)
 
 decode-move-requires-2 : tie.Need-decode-move-requires-2
 decode-move-requires-2 c κs = search needs
@@ -42,9 +43,9 @@ returns-2 : tie.Need-returns-2
 returns-2 c =
     let a = c .before .before .before .before .before .before .before .args in
     let x = c .before .before .before .decode-move2 in
-    moved (a .directory) (a .positions .now) (a .cash .now) (moveOf (a .tag) (a .bytes .now)) (c .before .take-out .result) (c .before .take-out .last .1 .0) outgoing
+    moved (a .directory) (a .positions .now) (a .cash .now) (callOf (a .tag) (a .operands .now)) (c .before .take-out .result) (c .before .take-out .last .1 .0) outgoing
     (x .result .account) (x .result .security) (x .result .quantity)
-    (ap (λ (y : Move). move outgoing (y .account) (y .security) (y .quantity)) (x .ensures) ∙ take-out (a .tag) (a .bytes .now) (omega arith)) (c .before .take-out .ensures)
+    (ap (λ (y : Move). move outgoing (y .account) (y .security) (y .quantity)) (x .ensures) ∙ sym (take-out-call (a .tag) (a .operands .now) (omega arith))) (c .before .take-out .ensures)
 
 decode-payment-requires : tie.Need-decode-payment-requires
 decode-payment-requires c κs = search needs
@@ -59,9 +60,9 @@ returns-3 : tie.Need-returns-3
 returns-3 c =
     let a = c .before .before .before .before .before .before .before .before .args in
     let x = c .before .before .before .before .decode-payment in
-    paid (a .directory) (a .positions .now) (a .cash .now) (moveOf (a .tag) (a .bytes .now)) (c .before .pay-in .result) (c .before .pay-in .last .1 .0) incoming
+    paid (a .directory) (a .positions .now) (a .cash .now) (callOf (a .tag) (a .operands .now)) (c .before .pay-in .result) (c .before .pay-in .last .1 .0) incoming
     (x .result .account) (x .result .amount)
-    (ap (λ (y : Payment). pay incoming (y .account) (y .amount)) (x .ensures) ∙ pay-in (a .tag) (a .bytes .now) (omega arith)) (c .before .pay-in .ensures)
+    (ap (λ (y : Payment). pay incoming (y .account) (y .amount)) (x .ensures) ∙ sym (pay-in-call (a .tag) (a .operands .now) (omega arith))) (c .before .pay-in .ensures)
 
 pay-out-requires : tie.Need-pay-out-requires
 pay-out-requires c κs = search needs
@@ -71,11 +72,13 @@ same-length-4 c = search needs
 
 returns-4 : tie.Need-returns-4
 returns-4 c =
-    let a = c .before .before .before .before .before .before .before .before .args in
+    let s = c .before .before .before .before .before .before .before .before in
+    let a = s .args in
+    let t = move-tag (a .tag) (s .pre) in
     let x = c .before .before .before .before .decode-payment in
-    paid (a .directory) (a .positions .now) (a .cash .now) (moveOf (a .tag) (a .bytes .now)) (c .before .pay-out .result) (c .before .pay-out .last .1 .0) outgoing
+    paid (a .directory) (a .positions .now) (a .cash .now) (callOf (a .tag) (a .operands .now)) (c .before .pay-out .result) (c .before .pay-out .last .1 .0) outgoing
     (x .result .account) (x .result .amount)
-    (ap (λ (y : Payment). pay outgoing (y .account) (y .amount)) (x .ensures) ∙ pay-out (a .tag) (a .bytes .now) (λ e. omega arith) (λ e. omega arith) (λ e. omega arith)) (c .before .pay-out .ensures)
+    (ap (λ (y : Payment). pay outgoing (y .account) (y .amount)) (x .ensures) ∙ sym (pay-out-call (a .tag) (a .operands .now) (omega arith))) (c .before .pay-out .ensures)
 
 pub movement-spec : {M : Type 1} → statement M
 movement-spec =

@@ -1,0 +1,102 @@
+-- 1 and 2 come before all other numbers: where one of them applies nothing changes, and where none does, the byte is known, its operands are there, and
+-- the call is the desk's.
+use Prim.Native.Nat.{ℕ, zero, suc, _≤_, _<_}
+use native.Mathlib.Omega.{arith}
+use mathlib.Core.Path.{_≡_, refl, sym, ap, _∙_}
+use mathlib.Core.Logic.{_≢_}
+use mathlib.Core.Bool.{Bool, true, false, not}
+use mathlib.Core.List.{List, [], _∷_}
+use mathlib.Core.Option.{Option, none, some}
+use lib.Dec.{leb, ltb}
+use lib.ListN.{length, take}
+use lib.Seq.{length-take-le}
+use borrow.Author.Tests.{lt-ltb, le-ltb}
+use Rattle.rules.specs.declared.Answer.the-variants.{Refused}
+use Rattle.rules.specs.Tests.{Condition, _when_, lowest}
+use Rattle.rules.specs.Calls.{Store, Call, outcome, lentSteps, deskConditions, desk}
+use Rattle.rules.specs.Stream.{widthOf}
+use Rattle.rules.proofs.Basics.{and-both, leb-is, ltb-not}
+use Rattle.wire.specs.declared.commands.Width.the-variants.{Bytes, NoCommand}
+use Rattle.wire.specs.Commands.{widthIn}
+use Rattle.wire.proofs.Widths.{width-is}
+use Rattle.probe.specs.Exports.{isEntry, isMove, asked, width, readConditions, obeyed}
+
+-- ---- the two numbers
+
+module _ (b s : Bool) (cs : List Condition) where
+  lowest-early : lowest (1 when b ∷ 2 when s ∷ []) ≢ 0 → lowest (1 when b ∷ 2 when s ∷ cs) ≡ lowest (1 when b ∷ 2 when s ∷ [])
+  lowest-early ne = go b s ne
+    where
+      go : (b s : Bool) → lowest (1 when b ∷ 2 when s ∷ []) ≢ 0 → lowest (1 when b ∷ 2 when s ∷ cs) ≡ lowest (1 when b ∷ 2 when s ∷ [])
+      go true s ne = refl
+      go false true ne = refl
+      go false false ne = absurd (ne refl)
+
+  lowest-later : lowest (1 when b ∷ 2 when s ∷ []) ≡ 0 → lowest (1 when b ∷ 2 when s ∷ cs) ≡ lowest cs
+  lowest-later e = go b s e
+    where
+      go : (b s : Bool) → lowest (1 when b ∷ 2 when s ∷ []) ≡ 0 → lowest (1 when b ∷ 2 when s ∷ cs) ≡ lowest cs
+      go true s e = let z : ⊥ = omega arith in absurd z
+      go false true e = let z : ⊥ = omega arith in absurd z
+      go false false e = refl
+
+clear : (known s : Bool) → lowest (1 when not known ∷ 2 when s ∷ []) ≡ 0 → (known ≡ true) × (s ≡ false)
+clear false s e = let z : ⊥ = omega arith in absurd z
+clear true true e = let z : ⊥ = omega arith in absurd z
+clear true false e = (refl, refl)
+
+refused-by : (k : Call) (st : Store) (n : ℕ) → n ≢ 0 → outcome n k st ≡ record { answer = Refused n; store = st; steps = lentSteps k }
+refused-by k st zero ne = absurd (ne refl)
+refused-by k st (suc n) ne = refl
+
+module _ (known : Bool) (tag : ℕ) (o : List ℕ) where
+  pub unknown-is : known ≡ false → 1 ≡ lowest (readConditions known tag o)
+  unknown-is e = rw e
+
+  pub cut-is : known ≡ true → length o < width tag → 2 ≡ lowest (readConditions known tag o)
+  cut-is e h = rw (e, lt-ltb (length o) (width tag) h)
+
+  pub none-is : known ≡ true → width tag ≤ length o → 0 ≡ lowest (readConditions known tag o)
+  none-is e h = rw (e, le-ltb (length o) (width tag) h)
+
+  module _ (n : ℕ) (e : n ≡ lowest (readConditions known tag o)) where
+    pub known-is : n ≡ 0 → known ≡ true
+    known-is z = clear known (ltb (length o) (width tag)) (sym e ∙ z) .0
+
+    pub whole-is : n ≡ 0 → width tag ≤ length o
+    whole-is z = ltb-not (length o) (width tag) (clear known (ltb (length o) (width tag)) (sym e ∙ z) .1)
+
+    module _ (k : Call) (st : Store) where
+      pub read-refused : n ≢ 0 → obeyed known tag o k st ≡ record { answer = Refused n; store = st; steps = lentSteps k }
+      unfolding obeyed
+      read-refused ne =
+          ap (λ (m : ℕ). outcome m k st) (lowest-early (not known) (ltb (length o) (width tag)) (deskConditions k st) (λ z. ne (e ∙ z)) ∙ sym e) ∙ refused-by k st n ne
+
+      pub read-passed : n ≡ 0 → obeyed known tag o k st ≡ desk k st
+      unfolding obeyed desk
+      read-passed z = ap (λ (m : ℕ). outcome m k st) (lowest-later (not known) (ltb (length o) (width tag)) (deskConditions k st) (sym e ∙ z))
+
+-- ---- widths
+
+pub width-bytes : (x : Option ℕ) (w : ℕ) → Bytes w ≡ widthIn x → w ≡ asked x
+width-bytes none w e = let z : _≡_ {A = ℕ} 0 1 = cc in absurd (omega arith)
+width-bytes (some v) w e = cc
+
+pub width-none : (x : Option ℕ) → NoCommand ≡ widthIn x → 0 ≡ asked x
+width-none none e = refl
+width-none (some v) e = let z : _≡_ {A = ℕ} 0 1 = cc in absurd (omega arith)
+
+-- ---- the bytes that an export knows
+
+pub entry-tag : (tag : ℕ) → isEntry tag ≡ true → (1 ≤ tag) × (tag ≤ 5)
+entry-tag tag e = let b = and-both (leb 1 tag) (leb tag 5) e in (leb-is 1 tag (b .0), leb-is tag 5 (b .1))
+
+pub move-tag : (tag : ℕ) → isMove tag ≡ true → (6 ≤ tag) × (tag ≤ 9)
+move-tag tag e = let b = and-both (leb 6 tag) (leb tag 9) e in (leb-is 6 tag (b .0), leb-is tag 9 (b .1))
+
+-- a known byte with as many operands as it asks for
+pub whole : (tag : ℕ) (o : List ℕ) → isEntry tag ≡ true → width tag ≤ length o → widthOf tag ≡ some (length (take (width tag) o))
+whole tag o e h =
+    let t = entry-tag tag e in
+    let w = width-is tag (λ z. omega arith) (omega arith) in
+    w ∙ ap some (sym (ap asked w) ∙ sym (length-take-le (width tag) o h))
