@@ -236,7 +236,9 @@ impl Bytes {
                 }
             }
         }
-        let [csds, securities, accounts, pairs, links] = self.counts[..] else { unreachable!("five counts were written") };
+        let [csds, securities, accounts, pairs, links] = self.counts[..] else {
+            unreachable!("five counts were written")
+        };
         directory.csds.count = csds;
         directory.securities.count = securities;
         directory.accounts.count = accounts;
