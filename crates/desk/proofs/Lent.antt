@@ -22,8 +22,7 @@ use Rattle.rules.specs.Booking.{positionCount, cashCount}
 use Rattle.rules.specs.Calls.{Store, Call, settle, derive, Outcome, outcome, core, coreConditions, desk, misfit, deskConditions, halvesChain, written, countOf}
 use Rattle.rules.proofs.Basics.{or-none, ltb-not}
 use Rattle.rules.proofs.ChainSize.{chain-few}
-use Rattle.rules.specs.Outcomes.{holding, settlementOn, derivationOn, blanks, byValue, replyOf}
-use Rattle.desk.specs.Replies.{stepRows}
+use Rattle.rules.specs.Outcomes.{holding, settlementOn, derivationOn, blanks, byValue, replyOf, stepRows}
 
 -- the two calls that are lent a step list
 pub data Lender : Type 0 where

@@ -18,12 +18,12 @@ use rules::Step;
 use rules::Steps;
 ghost use mathlib.Core.Path.{_≡_};
 ghost use Rattle.rules.specs.Chain.{stepLimit, step};
-ghost use Rattle.rules.specs.Outcomes.{settlementOn, derivationOn, blanks, replyOf, byValue};
+ghost use Rattle.rules.specs.Outcomes.{settlementOn, derivationOn, blanks, replyOf, byValue, stepRows};
 ghost use Prim.Native.Nat.{_≤_, _<_};
 ghost use lib.ListN.{length, getD};
 ghost use Rattle.rules.specs.Calls.{countOf, written};
 ghost use Rattle.chain.specs.StepList.{stepsIn};
-ghost use Rattle.desk.specs.Replies.{stepRows, refusal};
+ghost use Rattle.desk.specs.Replies.{refusal};
 
 // ---- by value
 

@@ -11,7 +11,8 @@ use lib.Dec.{leb}
 use borrow.Author.Tests.{le-leb, lt-leb}
 use Rattle.rules.specs.declared.Step.{Step}
 use Rattle.rules.specs.declared.Steps.{Steps}
-use Rattle.rules.specs.Chain.{step, stepRows}
+use Rattle.rules.specs.Chain.{step}
+use Rattle.rules.specs.Outcomes.{stepRows}
 use Rattle.rules.proofs.Basics.{eqb-true, eqb-false, and-true, and-untrue}
 use Rattle.layout.specs.Layout.{bytesIn, stepBytes, bytesOfSteps, filled, withSteps, stepsPut, Put}
 

@@ -20,7 +20,8 @@ use Rattle.rules.specs.declared.Directory.{Directory}
 use Rattle.rules.specs.declared.Steps.{Steps}
 use Rattle.rules.specs.Directory.{csdLimit, securityLimit, accountLimit, pairLimit, linkLimit}
 use Rattle.rules.specs.Entries.{Row, csdRow, securityRow, accountRow, pairRow, linkRow, blankAccount, blankPair, blankLink}
-use Rattle.rules.specs.Chain.{step, stepRows, stepLimit}
+use Rattle.rules.specs.Chain.{step, stepLimit}
+use Rattle.rules.specs.Outcomes.{stepRows}
 use Rattle.rules.specs.Stream.{accountAt, pairAt, linkAt}
 use Rattle.wire.specs.Operands.{csdIn, securityIn}
 

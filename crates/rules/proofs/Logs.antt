@@ -8,12 +8,12 @@ use Rattle.rules.specs.Tests.{lowest}
 use Rattle.rules.specs.Entries.{Row}
 use Rattle.rules.specs.Chain.{stepLimit}
 use Rattle.rules.specs.Booking.{Way}
-use Rattle.rules.specs.Calls.{Store, Call, enter, move, pay, settle, derive, outcome, misfit, deskConditions, desk}
-use Rattle.rules.specs.Demands.{begins, calls}
+use Rattle.rules.specs.Calls.{Store, Call, enter, move, pay, settle, derive, outcome, misfit, deskConditions, desk, Item}
+use Rattle.rules.specs.Demands.{Log, begins, calls}
 use Rattle.rules.proofs.Theorems.{demand3}
 use Rattle.rules.specs.Outcomes.{holding, derivationOn, blanks}
 use Rattle.rules.specs.Logs as desk-log
-use Rattle.rules.specs.Logs.{Made, entered, moved, paid, settled, settledByValue, derived, derivedByValue, DeskLogs, DeskBalances}
+use Rattle.rules.specs.Logs.{Made, entered, moved, paid, settled, settledByValue, derived, derivedByValue, DeskLog, DeskLogged}
 
 -- what demand 3 asks of a call of a log
 pub record Asked (st : Store) (c : Call) (r : Answer) (left : Store) : Type 0 where
@@ -97,11 +97,11 @@ module _ (st : Store) where
   asked c r left (derived h g lent x steps e) = asked-derivation h g lent x (e .0)
   asked c r left (derivedByValue h g x e) = asked-derivation h g (blanks stepLimit) (x .answer) (ap (λ (y : Reply). y .answer) e)
 
-pub desk-logs : DeskLogs
+desk-logs : (items : List Item) (st : Store) → DeskLog items st → Log items st
 desk-logs items st (desk-log.begins e) = begins e
 desk-logs items st (desk-log.calls {items = before} {st = handed} {c = c} {r = r} l m) =
     let a = asked handed c r st m in
     calls c r st (desk-logs before handed l) (a .answer) (a .store)
 
-pub desk-balances : DeskBalances
-desk-balances items st l = demand3 .logs items st (desk-logs items st l)
+pub desk-logged : DeskLogged
+desk-logged = record { logs = desk-logs; balances = λ items st l. demand3 .logs items st (desk-logs items st l) }

@@ -42,10 +42,7 @@ pub data DeskLog : List Item → Store → Type 0 where
   begins : {st : Store} → st ≡ emptyStore → DeskLog [] st
   calls : {items : List Item} {st : Store} {c : Call} {r : Answer} {left : Store} → DeskLog items st → Made st c r left → DeskLog (item c r st left ∷ items) left
 
--- such a log is one of demand 3's
-abbrev pub DeskLogs : Type 0
-DeskLogs = (items : List Item) (st : Store) → DeskLog items st → Log items st
-
--- so demand 3 holds of it
-abbrev pub DeskBalances : Type 0
-DeskBalances = (items : List Item) (st : Store) → DeskLog items st → Balanced items st
+-- such a log is one of demand 3's, so that demand 3 holds of it
+pub record DeskLogged : Type 0 where
+  pub logs : (items : List Item) (st : Store) → DeskLog items st → Log items st
+  pub balances : (items : List Item) (st : Store) → DeskLog items st → Balanced items st

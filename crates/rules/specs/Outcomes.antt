@@ -48,6 +48,10 @@ blanks n = replicate n (step 0 0 0)
 abbrev pub byValue : List Step → Steps
 byValue xs = record { count = length xs; rows = written xs (blanks stepLimit) }
 
+-- the steps of such a value
+abbrev pub stepRows : Steps → List Step
+stepRows x = take (x .count) (x .rows)
+
 -- an outcome by value: its answer, and the K steps that a lent list then starts with
 abbrev pub replyOf : Outcome → Reply
 replyOf o = record { answer = o .answer; steps = byValue (take (countOf (o .answer)) (o .steps)) }

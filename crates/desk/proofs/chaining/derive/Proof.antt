@@ -43,7 +43,7 @@ use Rattle.rules.specs.declared.Half.{Half}
 use Rattle.rules.specs.declared.Reply.{Reply}
 use Rattle.rules.specs.declared.Answer.{Answer}
 use Rattle.rules.specs.Calls.{Outcome, written}
-use Rattle.rules.specs.Outcomes.{derivationOn, blanks, replyOf}
+use Rattle.rules.specs.Outcomes.{derivationOn, blanks, replyOf, stepRows}
 use Rattle.desk.proofs.Lent.{Serves, derivation-serves}
 use Rattle.rules.proofs.Step as T
 use Rattle.rules.proofs.Directory as D
@@ -66,7 +66,6 @@ use Rattle.desk.proofs.chaining.derive.Key.{name as #desk·chaining·de
 use Rattle.desk.proofs.chaining.derive as f
 use Rattle.desk.proofs.chaining.derive.Statement as stated
 use Rattle.desk.proofs.chaining.derive.Code as code
-use Rattle.desk.specs.Replies.{stepRows}
 
 abbrev stayed : Stays (f.ended .signature .params) (f.ended .kept)
 stayed = (stay-none (λ _. D.the-row) yes, (gave-slice (0 ∷ []) tt (plain (λ _. T.the-row)), (stay-none (λ _. P.the-row) yes, (stay-none (λ _. P.the-row) yes, tt))))

@@ -57,7 +57,7 @@ use Rattle.desk.proofs.chaining.finish as f
 use Rattle.desk.proofs.chaining.finish.Statement as stated
 use Rattle.desk.proofs.chaining.finish.Code as code
 use Rattle.desk.proofs.chaining.finish.Code.Mir as mir′
-use Rattle.desk.specs.Replies.{stepRows}
+use Rattle.rules.specs.Outcomes.{stepRows}
 
 abbrev stayed : Stays (f.ended .signature .params) (f.ended .kept)
 stayed = (gave-slice (0 ∷ []) tt (plain (λ _. T.the-row)), (stay-none (λ _. O.the-row) yes, tt))

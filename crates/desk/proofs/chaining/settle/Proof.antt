@@ -44,7 +44,7 @@ use Rattle.rules.specs.declared.Half.{Half}
 use Rattle.rules.specs.declared.Reply.{Reply}
 use Rattle.rules.specs.declared.Answer.{Answer}
 use Rattle.rules.specs.Calls.{Store, Outcome, written}
-use Rattle.rules.specs.Outcomes.{settlementOn, blanks, replyOf}
+use Rattle.rules.specs.Outcomes.{settlementOn, blanks, replyOf, stepRows}
 use Rattle.desk.proofs.Lent.{Serves, settlement-serves, settlement-store}
 use Rattle.rules.proofs.Step as T
 use Rattle.rules.proofs.Directory as D
@@ -67,7 +67,6 @@ use Rattle.desk.proofs.chaining.settle.Key.{name as #desk·chaining·se
 use Rattle.desk.proofs.chaining.settle as f
 use Rattle.desk.proofs.chaining.settle.Statement as stated
 use Rattle.desk.proofs.chaining.settle.Code as code
-use Rattle.desk.specs.Replies.{stepRows}
 
 abbrev stayed : Stays (f.ended .signature .params) (f.ended .kept)
 stayed = (stay-none (λ _. D.the-row) yes, (gave-slice (0 ∷ []) tt (plain (λ _. i64)), (gave-slice (1 ∷ []) tt (plain (λ _. i64)), (gave-slice (2 ∷ []) tt (plain (λ _. T.the-row)), (stay-none (λ _. P.the-row) yes, (stay-none (λ _. P.the-row) yes, tt))))))
