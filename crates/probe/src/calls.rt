@@ -326,7 +326,7 @@ pub extern "C" fn fluzzam_cash_total(cash: &[i64], sum: &mut [i64]) -> u64
     }
 }
 
-// The program: the whole text of an input to the front of `output`, and its length; 0 where `output` has not room for every text.
+// The program: the whole text of an input to the front of `output`, whose other bytes stay, and its length; 0 where `output` has not room for every text.
 #[no_mangle]
 pub extern "C" fn fluzzam_run(input: &[u8], output: &mut [u8]) -> usize
     ensures { λ r. ⌜ Printed (transcript (now (input .entry))) (now (output .entry)) (now (output .exit)) r ⌝ }

@@ -2,7 +2,10 @@
 use crate::transfers::INTERRUPTIONS;
 use crate::transfers::Transfer;
 use crate::transfers::transfer_of;
-ghost use Prim.Native.Nat.{_≤_};
+ghost use mathlib.Core.Path.{_≡_};
+ghost use mathlib.Core.Bool.{true};
+ghost use mathlib.Core.Logic.{_⊎_};
+ghost use Prim.Native.Nat.{_≤_, _<_};
 ghost use lib.ListN.{length};
 ghost use Rattle.realign.specs.Transfers.{Room};
 
@@ -15,8 +18,10 @@ fn write_on(fd: i32, bytes: &[u8], done: usize) -> Transfer
     transfer_of(got, os::errno())
 }
 
-// Whether all bytes were written. A call that takes none of them fails; where the answer is false, some may have been written.
-pub fn write_whole(fd: i32, bytes: &[u8]) -> bool {
+// Whether all bytes were written: of none they are. A call that takes none of them fails; where the answer is false, some may have been written.
+pub fn write_whole(fd: i32, bytes: &[u8]) -> bool
+    ensures { λ r. ⌜ (r ≡ true) ⊎ (0 < length (now (bytes .entry))) ⌝ }
+{
     let mut done: usize = 0;
     let mut left = INTERRUPTIONS;
     while done < bytes.len() {

@@ -6,7 +6,6 @@ use lib.IntN.{ℤ}
 use Rattle.rules.specs.Types.{Half, Step, Answer, Entered, Reply}
 use Rattle.rules.specs.Tests.{lowest}
 use Rattle.rules.specs.Entries.{Row}
-use Rattle.rules.specs.Chain.{stepLimit}
 use Rattle.rules.specs.Booking.{Way}
 use Rattle.rules.specs.Calls.{Store, Call, enter, move, pay, settle, derive, outcome, misfit, deskConditions, desk, Item}
 use Rattle.rules.specs.Demands.{Log, begins, calls}
@@ -93,9 +92,9 @@ module _ (st : Store) where
         store = ap (λ (y : List ℤ). holding (st .directory) (st .positions) y) (e .1) ∙ payment-store n w a m;
       }
   asked c r left (settled h g lent x p k steps e) = asked-settlement h g lent x p k (e .0) (e .1) (e .2)
-  asked c r left (settledByValue h g x p k e) = asked-settlement h g (blanks stepLimit) (x .answer) p k (ap (λ (y : Reply). y .answer) (e .0)) (e .1) (e .2)
+  asked c r left (settledByValue n h g x p k e) = asked-settlement h g (blanks n) (x .answer) p k (ap (λ (y : Reply). y .answer) (e .0)) (e .1) (e .2)
   asked c r left (derived h g lent x steps e) = asked-derivation h g lent x (e .0)
-  asked c r left (derivedByValue h g x e) = asked-derivation h g (blanks stepLimit) (x .answer) (ap (λ (y : Reply). y .answer) e)
+  asked c r left (derivedByValue n h g x e) = asked-derivation h g (blanks n) (x .answer) (ap (λ (y : Reply). y .answer) e)
 
 desk-logs : (items : List Item) (st : Store) → DeskLog items st → Log items st
 desk-logs items st (desk-log.begins e) = begins e

@@ -5,7 +5,6 @@ use mathlib.Core.List.{List, [], _∷_}
 use lib.IntN.{ℤ}
 use Rattle.rules.specs.Types.{Half, Step, Answer, Entered, Reply}
 use Rattle.rules.specs.Entries.{Row}
-use Rattle.rules.specs.Chain.{stepLimit}
 use Rattle.rules.specs.Booking.{Way}
 use Rattle.rules.specs.Calls.{Store, Call, enter, move, pay, settle, derive, Item, item, emptyStore}
 use Rattle.rules.specs.Demands.{Log, Balanced}
@@ -27,15 +26,15 @@ pub data Made (st : Store) : Call → Answer → Store → Type 0 where
   settled : (h g : Half) (lent : List Step) (r : Answer) (p c : List ℤ) (steps : List Step) → (r ≡ settlementOn (st .directory) (st .positions) (st .cash) lent h g .answer)
       × (p ≡ settlementOn (st .directory) (st .positions) (st .cash) lent h g .store .positions) × (c ≡ settlementOn (st .directory) (st .positions) (st .cash) lent h g .store .cash)
       × (steps ≡ settlementOn (st .directory) (st .positions) (st .cash) lent h g .steps) → Made st (settle h g lent) r (holding (st .directory) p c)
-  -- settle_by_value
-  settledByValue : (h g : Half) (r : Reply) (p c : List ℤ) → (r ≡ replyOf (settlementOn (st .directory) (st .positions) (st .cash) (blanks stepLimit) h g))
-      × (p ≡ settlementOn (st .directory) (st .positions) (st .cash) (blanks stepLimit) h g .store .positions)
-      × (c ≡ settlementOn (st .directory) (st .positions) (st .cash) (blanks stepLimit) h g .store .cash) → Made st (settle h g (blanks stepLimit)) (r .answer) (holding (st .directory) p c)
+  -- settle_reply, which is told how many steps are lent; settle_by_value with 16
+  settledByValue : (n : ℕ) (h g : Half) (r : Reply) (p c : List ℤ) → (r ≡ replyOf (settlementOn (st .directory) (st .positions) (st .cash) (blanks n) h g))
+      × (p ≡ settlementOn (st .directory) (st .positions) (st .cash) (blanks n) h g .store .positions)
+      × (c ≡ settlementOn (st .directory) (st .positions) (st .cash) (blanks n) h g .store .cash) → Made st (settle h g (blanks n)) (r .answer) (holding (st .directory) p c)
   -- derive
   derived : (h g : Half) (lent : List Step) (r : Answer) (steps : List Step) → (r ≡ derivationOn (st .directory) lent h g .answer) × (steps ≡ derivationOn (st .directory) lent h g .steps)
       → Made st (derive h g lent) r st
-  -- derive_by_value
-  derivedByValue : (h g : Half) (r : Reply) → r ≡ replyOf (derivationOn (st .directory) (blanks stepLimit) h g) → Made st (derive h g (blanks stepLimit)) (r .answer) st
+  -- derive_reply, derive_by_value
+  derivedByValue : (n : ℕ) (h g : Half) (r : Reply) → r ≡ replyOf (derivationOn (st .directory) (blanks n) h g) → Made st (derive h g (blanks n)) (r .answer) st
 
 -- "Each call is handed the directory that the last one returned and the positions and cash that it left"
 pub data DeskLog : List Item → Store → Type 0 where

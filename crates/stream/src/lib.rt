@@ -100,8 +100,8 @@ fn put_ending(
     put_cash(out, totals, cents_of(cash))
 }
 
-// Writes the transcript of the input to the front of `output` and answers its length. An output of less than ROOM bytes is left as it is, and
-// the answer is 0.
+// Writes the transcript of the input to the front of `output`, whose other bytes stay, and answers its length. An output of less than ROOM bytes
+// is left as it is, and the answer is 0.
 pub fn run(input: &[u8], output: &mut [u8]) -> usize
     ensures { λ r. ⌜ Printed (transcript (now (input .entry))) (now (output .entry)) (now (output .exit)) r ⌝ }
 {
