@@ -12,27 +12,21 @@ use Rattle.rules.specs.Lookups.{homeOf, ask}
 use Rattle.rules.specs.Walks.{Walk, defaultWalk}
 use Rattle.rules.specs.Chain
 use Rattle.rules.specs.Chain.{Route, sides, apart, judged, joinedBy, route, Climb, climbed, unpaired, step, stepUp, over, climb, lastOf, Chain, unchained, linkUp, along, chain}
-use Rattle.rules.specs.Relations.{Walks, endsOutside, endsInside, endsWithoutLink, goesOn, DefaultWalk, Joins}
+use Rattle.rules.specs.Relations.{DefaultWalk, Joins}
 use Rattle.rules.specs.Refusals
 use Rattle.rules.specs.Refusals.{Unjoined, TooLong, Unpaired, between, above, ChainRefused}
 use Rattle.rules.proofs.Basics.{impossible, eqb-false}
 use Rattle.rules.proofs.Facts.{Facts}
 use Rattle.rules.proofs.Pairs.{no-pair, pair-none}
-use Rattle.rules.proofs.WalkRelation.{default-walk, walk-ends}
+use Rattle.rules.proofs.WalkRelation.{walks-end, default-walk, walk-ends}
 use Rattle.rules.proofs.Routing.{Fourth, Routed, oneCsd, sharing, directed, reversed, twoIssuers, twoExternals, refused, routed}
 use Rattle.rules.proofs.MeetingRelation.{no-meeting, none-shared}
 use Rattle.rules.proofs.RouteRelation.{not-reached, reached-not, joins-route, route-joins}
 
 -- ---- walks that are too long
 module _ (r : Rows) (F : Facts r) (s : ℕ) where
-  walks-end : (c : ℕ) (path : List ℕ) (e : WalkEnd) → Walks (r .csds) (r .links) s c path e → e ≢ T.TooLong
-  walks-end c path e (endsOutside x) f = impossible (cc)
-  walks-end c path e (endsInside l x i) f = impossible (cc)
-  walks-end c path e (endsWithoutLink x n m) f = impossible (cc)
-  walks-end c path e (goesOn {path = rest} l x n d w) f = walks-end (l .technical) rest e w f
-
   end-too-long : (c : ℕ) → defaultWalk (ask r) s c .end ≡ T.TooLong → TooLong r s c
-  end-too-long c q path e w = walks-end c path e (w .walks) (sym (ap (λ (x : Walk). x .end) (default-walk r s F c path e w)) ∙ q)
+  end-too-long c q path e w = walks-end r s (w .walks) (sym (ap (λ (x : Walk). x .end) (default-walk r s F c path e w)) ∙ q)
 
   too-long-end : (c : ℕ) → TooLong r s c → defaultWalk (ask r) s c .end ≡ T.TooLong
   too-long-end c never = go (defaultWalk (ask r) s c .end) refl

@@ -13,8 +13,9 @@ use Rattle.rules.specs.Identifiers.{byteAt, isBic, isIsin, isinChecks}
 use Rattle.rules.specs.Directory.{csdLimit, securityLimit, accountLimit, external, bicEntered, isinEntered}
 use Rattle.rules.specs.Lookups.{ask}
 use Rattle.rules.specs.Entries.{csdConditions, securityConditions, accountConditions}
+use Rattle.rules.specs.Relations.{External}
 use Rattle.rules.specs.Refusals
-use Rattle.rules.specs.Refusals.{NoRow, External, Capital, Digit, CapitalOrDigit, CsdRefused, SecurityRefused, AccountRefused}
+use Rattle.rules.specs.Refusals.{NoRow, Capital, Digit, CapitalOrDigit, CsdRefused, SecurityRefused, AccountRefused}
 use Rattle.rules.proofs.Basics.{unnot-false}
 use Rattle.rules.proofs.Reflection.{Says, says-as, says-or, says-lt}
 use Rattle.rules.proofs.Places.{Renders, end, skip, test}

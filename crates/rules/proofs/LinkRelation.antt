@@ -12,9 +12,9 @@ use Rattle.rules.specs.Tests.{isRow, isFull}
 use Rattle.rules.specs.Directory.{Rows, linkLimit, noCsd, noAccount, external, isKind, inBooks, hasLink, hasIssuer, hasInvestor}
 use Rattle.rules.specs.Lookups.{ask}
 use Rattle.rules.specs.Entries.{technicalUnknown, accountUnknown, technicalEntered, wrongIssuance, issuerBroken, flagBroken, alternativeOutside, investorBroken, linkUnknown, linkConditions}
-use Rattle.rules.specs.Relations.{IssuerOf, LinkTo}
+use Rattle.rules.specs.Relations.{Is, External, InT2S, IssuerOf, LinkTo}
 use Rattle.rules.specs.Refusals
-use Rattle.rules.specs.Refusals.{Is, NoRow, External, InT2S, Linked, LinkRefused}
+use Rattle.rules.specs.Refusals.{NoRow, Linked, LinkRefused}
 use Rattle.rules.proofs.Basics.{and-both, and-true, and-first, or-none, or-right, eqb-is, eqb-true, ltb-not}
 use Rattle.rules.proofs.Several.{none-hold}
 use Rattle.rules.proofs.Reflection.{Says, says-as, says-not, says-or, says-and, says-cond, says-eq, says-ne}

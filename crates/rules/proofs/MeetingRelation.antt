@@ -1,22 +1,24 @@
 -- The first shared CSD that the definitions find is the meeting of the relations: it stands in D's path behind CSDs of which none is
 -- shared, and a path cut behind its first place is the part before it and itself.
 use mathlib.Core.Path.{_≡_, refl, sym, ap, _∙_, subst}
+use mathlib.Core.Logic.{_≢_}
 use mathlib.Core.Bool.{Bool, true, false, not, _&&_, cond}
 use mathlib.Core.List.{List, [], _∷_, _++_, List·Memᴰ, List·Memᴰ·head, List·Memᴰ·tail, Memᴰ·append-right}
 use mathlib.Core.Option.{Option, none, some}
 use Prim.Native.Nat.{ℕ}
 use lib.Dec.{eqb}
-use Rattle.rules.specs.Types.{WalkEnd}
+use Rattle.rules.specs.Types.{WalkEnd, Inside, Outside, NoLink, TooLong}
 use Rattle.rules.specs.Tests.{find}
 use Rattle.rules.specs.Directory.{Rows, external}
 use Rattle.rules.specs.Lookups.{Lookups, ask}
 use Rattle.rules.specs.Walks.{Walk, defaultWalk, arrived}
 use Rattle.rules.specs.Chain.{isNamed, firstShared, shared, upTo}
-use Rattle.rules.specs.Relations.{DefaultWalk, Meets, NoMeeting}
+use Rattle.rules.specs.Relations.{Walks, DefaultWalk, Meets, NoMeeting}
 use Rattle.rules.proofs.Basics.{impossible, clash, unnot, untrue, and-both, and-true, eqb-is, eqb-true, eqb-false, find-none, any-true, any-some}
 use Rattle.rules.proofs.FirstRow.{FirstIn, only-found, first-found, found-first}
+use Rattle.rules.proofs.RowTests.{not-external, in-t2s}
 use Rattle.rules.proofs.Facts.{Facts}
-use Rattle.rules.proofs.WalkRelation.{default-walk, walk-default}
+use Rattle.rules.proofs.WalkRelation.{walks-end, default-walk, walk-default}
 
 -- ---- paths
 pub named-in : (path : List ℕ) (c : ℕ) → isNamed path c ≡ true → List·Memᴰ c path
@@ -52,6 +54,16 @@ module _ (r : Rows) (s D R : ℕ) where
   abbrev fromR : Walk
   fromR = defaultWalk (ask r) s R
 
+  -- a walk does not end too long, so it arrives where it does not end without a link
+  walked : {c : ℕ} {path : List ℕ} (e : WalkEnd) → Walks (r .csds) (r .links) s c path e → e ≢ NoLink → arrived e ≡ true
+  walked (Inside i) w n = refl
+  walked (Outside x) w n = refl
+  walked NoLink w n = absurd (n refl)
+  walked TooLong w n = absurd (walks-end r s w refl)
+
+  arrives : {c : ℕ} {path : List ℕ} {e : WalkEnd} → DefaultWalk (r .csds) (r .links) s c path e → e ≢ NoLink → arrived e ≡ true
+  arrives {e = e} w n = walked e (w .walks) n
+
   in-shared : (q : List ℕ) (c : ℕ) → external (r .csds) c ≡ false → List·Memᴰ c q → isShared (ask r) q c ≡ true
   in-shared q c e i = and-true (not (external (r .csds) c)) (isNamed q c) (ap not e) (in-named q c i)
 
@@ -59,7 +71,7 @@ module _ (r : Rows) (s D R : ℕ) where
       → (shared (ask r) fromD fromR ≡ some (x .meeting)) × (upTo (x .meeting) (fromD .path) ≡ up) × (upTo (x .meeting) (fromR .path) ≡ down)
   unfolding firstShared
   meets-shared F up down x = (
-    rw (w, v, x .deliveringArrived, x .receivingArrived) (first-found (isShared (ask r) q) (x .before) (x .after) (x .meeting) here earlier),
+    rw (w, v, arrives (x .delivering) (x .deliveringArrived), arrives (x .receiving) (x .receivingArrived)) (first-found (isShared (ask r) q) (x .before) (x .after) (x .meeting) here earlier),
     ap (λ (k : Walk). upTo (x .meeting) (k .path)) w ∙ up-to-first (x .meeting) (x .before) (x .after) fresh ∙ sym (x .upward),
     ap (λ (k : Walk). upTo (x .meeting) (k .path)) v ∙ up-to-first (x .meeting) (x .beneath) (x .above) (x .once) ∙ sym (x .downward),
   )
@@ -77,13 +89,13 @@ module _ (r : Rows) (s D R : ℕ) where
       v = default-walk r s F R q (x .receivingEnd) (x .receiving)
 
       here : isShared (ask r) q (x .meeting) ≡ true
-      here = in-shared q (x .meeting) (x .inT2S) (Memᴰ·append-right (x .beneath) (List·Memᴰ·head refl))
+      here = in-shared q (x .meeting) (not-external (r .csds) (x .meeting) (x .inT2S)) (Memᴰ·append-right (x .beneath) (List·Memᴰ·head refl))
 
       earlier : (c : ℕ) → List·Memᴰ c (x .before) → isShared (ask r) q c ≡ false
       earlier c i =
           untrue (isShared (ask r) q c) (λ e.
           let b : (not (external (r .csds) c) ≡ true) × (isNamed q c ≡ true) = and-both (not (external (r .csds) c)) (isNamed q c) e in
-          x .first c i (unnot (external (r .csds) c) (b .0)) (named-in q c (b .1)))
+          x .first c i (in-t2s (r .csds) c (unnot (external (r .csds) c) (b .0))) (named-in q c (b .1)))
 
       fresh : List·Memᴰ (x .meeting) (x .before) → ⊥
       fresh i = clash (isShared (ask r) q (x .meeting)) here (earlier (x .meeting) i)
@@ -105,10 +117,10 @@ module _ (r : Rows) (s D R : ℕ) where
             receivingEnd = fromR .end;
             delivering = subst (λ (p : List ℕ). DefaultWalk (r .csds) (r .links) s D p (fromD .end)) (x .whole) (walk-default r s D (fromD .end) refl (a .0));
             receiving = subst (λ (p : List ℕ). DefaultWalk (r .csds) (r .links) s R p (fromR .end)) (y .whole) (walk-default r s R (fromR .end) refl (a .1));
-            deliveringArrived = a .0;
-            receivingArrived = a .1;
-            inT2S = home;
-            first = λ c i k n. clash (isShared (ask r) (fromR .path) c) (in-shared (fromR .path) c k (rw (y .whole) n)) (x .earlier c i);
+            deliveringArrived = λ e. clash (arrived (fromD .end)) (a .0) (ap arrived e);
+            receivingArrived = λ e. clash (arrived (fromR .end)) (a .1) (ap arrived e);
+            inT2S = in-t2s (r .csds) m home;
+            first = λ c i k n. clash (isShared (ask r) (fromR .path) c) (in-shared (fromR .path) c (not-external (r .csds) c k) (rw (y .whole) n)) (x .earlier c i);
             once = λ i. clash (eqb m m) (eqb-true m m refl) (y .earlier m i);
             upward = ap (upTo m) (x .whole) ∙ up-to-first m (x .before) (x .after) (λ i. clash (isShared (ask r) (fromR .path) m) (x .passes) (x .earlier m i));
             downward = ap (upTo m) (y .whole) ∙ up-to-first m (y .before) (y .after) (λ i. clash (eqb m m) (eqb-true m m refl) (y .earlier m i));

@@ -14,9 +14,9 @@ use Rattle.rules.specs.Directory.{Rows, external, isKind, pairOf, hasIss
 use Rattle.rules.specs.Lookups.{technicalOf, accountOf, issuance, homeOf, ask}
 use Rattle.rules.specs.Chain.{Chain, stepsOf, chainConditions}
 use Rattle.rules.specs.Booking.{Way, incoming, outgoing, limit, mirrorOf, interCsd, contra, moveStep, moveBy, moveChain, moveConditions, unitsShort, unitsBeyond, outOfRange, payment, payShort, payConditions, cashShort, cashBeyond, cashOn}
-use Rattle.rules.specs.Relations.{DefaultOf, NoIssuer}
+use Rattle.rules.specs.Relations.{Is, External, InT2S, DefaultOf, NoIssuer}
 use Rattle.rules.specs.Refusals
-use Rattle.rules.specs.Refusals.{Is, NoRow, External, NoPair, Beyond, Short, Exceeds, ContraOf, MoveRefused, PayRefused}
+use Rattle.rules.specs.Refusals.{NoRow, NoPair, Beyond, Short, Exceeds, ContraOf, MoveRefused, PayRefused}
 use Rattle.rules.proofs.Basics.{impossible, clash, or-none}
 use Rattle.rules.proofs.Reflection.{Says, says-as, says-or, says-and, says-ne, denies, denied}
 use Rattle.rules.proofs.Places.{Renders, end, skip, test, stop}
@@ -31,7 +31,7 @@ use Rattle.rules.proofs.Links.{issuer-has, has-issuer, no-issuer, issue
 module _ (r : Rows) (F : Facts r) (s c : ℕ) where
   -- no issuer link, and no default link to an external CSD with its pair
   pub data Missing : Type 0 where
-    link : NoIssuer (r .csds) (r .links) s c → ((l : Link) → DefaultOf (r .csds) (r .links) s c l → Refusals.InT2S (r .csds) (l .technical)) → Missing
+    link : NoIssuer (r .csds) (r .links) s c → ((l : Link) → DefaultOf (r .csds) (r .links) s c l → InT2S (r .csds) (l .technical)) → Missing
     pair : NoIssuer (r .csds) (r .links) s c → (l : Link) → DefaultOf (r .csds) (r .links) s c l → External (r .csds) (l .technical) → NoPair (r .pairs) c (l .technical) → Missing
 
   -- what the definitions find

@@ -11,8 +11,9 @@ use Rattle.rules.specs.Tests.{isRow, isFull}
 use Rattle.rules.specs.Directory.{Rows, pairLimit, noAccount, external, isKind, inBooks, isJoined, isPaired}
 use Rattle.rules.specs.Lookups.{ask}
 use Rattle.rules.specs.Entries.{secondUnknown, wrongAccounts, pairUnknown, pairConditions}
+use Rattle.rules.specs.Relations.{Is, External, InT2S}
 use Rattle.rules.specs.Refusals
-use Rattle.rules.specs.Refusals.{Is, NoRow, External, InT2S, Paired, PairRefused}
+use Rattle.rules.specs.Refusals.{NoRow, Paired, PairRefused}
 use Rattle.rules.proofs.Basics.{bool-cases, and-first}
 use Rattle.rules.proofs.Several.{none-hold}
 use Rattle.rules.proofs.Reflection.{Says, says-as, says-not, says-or, says-and, says-not-and, says-eq, says-ne, denies}

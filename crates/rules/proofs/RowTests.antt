@@ -11,10 +11,10 @@ use lib.ListN.{length, getElem?}
 use Rattle.rules.specs.Types.{Csd, Account, Pair, Link}
 use Rattle.rules.specs.Tests.{isRow, isFull}
 use Rattle.rules.specs.Directory.{noAccount, typeIs, kindIs, csdIs, external, isKind, inBooks, joins, uses, isJoined, isPaired, isLink, isIssuer, isInvestor, isLinkTo, hasLink, hasIssuer, hasInvestor, hasLinkTo}
-use Rattle.rules.specs.Relations.{IssuerOf, LinkTo}
-use Rattle.rules.specs.Refusals.{Is, NoRow, External, Paired, asMirror, asOmnibus, Linked}
+use Rattle.rules.specs.Relations.{Is, External, InT2S, IssuerOf, LinkTo}
+use Rattle.rules.specs.Refusals.{NoRow, Paired, asMirror, asOmnibus, Linked}
 use Rattle.rules.proofs.Basics.{impossible, clash, unnot-false, ltb-is}
-use Rattle.rules.proofs.Reflection.{Says, says-as, says-not, says-or, says-and, says-eq, says-not-and, says-ne, says-lt, says-le, says-any}
+use Rattle.rules.proofs.Reflection.{Says, says-as, says-not, says-or, says-and, says-eq, says-not-and, says-ne, says-lt, says-le, says-any, denies, denied}
 
 -- ---- tables
 pub says-no-row : {A : Type 0} (rows : List A) (n : ℕ) → Says (NoRow rows n) (not (isRow rows n))
@@ -46,6 +46,18 @@ says-external cs c = go (getElem? cs c) refl
     go : (o : Option Csd) → getElem? cs c ≡ o → Says (External cs c) (typeIs 1 o)
     go none e = record { holds = λ f. clash true refl (sym f); tests = λ h. let f = h .1 in impossible (cc) }
     go (some x) e = says-as (says-eq (x .external) 1) (λ f. (x, e, f)) (λ h. let f = h .1 in let same : h .0 ≡ x = cc in rw same at (h .2))
+
+pub is-external : (cs : List Csd) (c : ℕ) → External cs c → external cs c ≡ true
+is-external cs c x = says-external cs c .tests x
+
+pub not-external : (cs : List Csd) (c : ℕ) → InT2S cs c → external cs c ≡ false
+not-external cs c n = denied (external cs c) (says-external cs c) n
+
+pub in-t2s : (cs : List Csd) (c : ℕ) → external cs c ≡ false → InT2S cs c
+in-t2s cs c e = denies (external cs c) (says-external cs c) e
+
+pub outside-t2s : (cs : List Csd) (c : ℕ) → external cs c ≡ true → External cs c
+outside-t2s cs c e = says-external cs c .holds e
 
 pub kind-of : (acc : List Account) (a k : ℕ) (y : Account) → Is acc a y → isKind acc a k ≡ eqb (y .kind) k
 unfolding isKind

@@ -15,8 +15,9 @@ use Rattle.rules.specs.Entries.{Row, csdRow, securityRow, accountRow, pa
 use Rattle.rules.specs.Booking.{positionCount, cashCount, heldIn, cashOn, beyond, participants, everyAccount, sumBeyond, participantSum, cashSum, securityTotalBy, cashTotalBy}
 use Rattle.rules.specs.Calls.{Store, Call, enter, move, pay, settle, derive, misfit, coreConditions, deskConditions, outcome, desk, success, numberOf, unitsNumber, centsNumber, deskSecurityTotal, deskCashTotal}
 use Rattle.rules.specs.Demands.{Decides, Ruled, Totalled}
+use Rattle.rules.specs.Relations.{Is}
 use Rattle.rules.specs.Refusals
-use Rattle.rules.specs.Refusals.{places, Is, NoRow, Beyond, RowRefused, DeriveRefused, SettleRefused, CoreRefused, Applies, UnitsTotalRefused, CashTotalRefused}
+use Rattle.rules.specs.Refusals.{places, NoRow, Beyond, RowRefused, DeriveRefused, SettleRefused, CoreRefused, Applies, UnitsTotalRefused, CashTotalRefused}
 use Rattle.rules.proofs.Basics.{unnot-false, eqb-is, eqb-not}
 use Rattle.rules.proofs.Reflection.{Says, says-as, says-not, says-or, says-and, says-ne}
 use Rattle.rules.proofs.Places.{Renders, end, skip, test, none-applies, none-holds, given-first, first-given, renders-as, not-below}

@@ -15,9 +15,9 @@ use Rattle.rules.specs.Lookups.{homeOf, ask}
 use Rattle.rules.specs.Chain.{Chain, chained, unchained, stepsOf, chainConditions}
 use Rattle.rules.specs.Booking.{limit, outOfRange, amountOutOfRange, beyond, unitsShort, unitsBeyond, cashShort, cashBeyond, paymentBeyond, cashOn}
 use Rattle.rules.specs.Calls.{halfUnknown, halfOutOfRange, halvesDiffer, halvesConditions, halvesChain, deriveConditions, bookConditions, settleConditions}
-use Rattle.rules.specs.Relations.{ChainIs}
+use Rattle.rules.specs.Relations.{Is, ChainIs}
 use Rattle.rules.specs.Refusals
-use Rattle.rules.specs.Refusals.{Is, NoRow, Beyond, Short, Exceeds, HalfRefused, HalvesRefused, ChainRefused, DeriveRefused, SettleRefused}
+use Rattle.rules.specs.Refusals.{NoRow, Beyond, Short, Exceeds, HalfRefused, HalvesRefused, ChainRefused, DeriveRefused, SettleRefused}
 use Rattle.rules.proofs.Basics.{impossible, or-none, eqb-is, eqb-not, Quiet}
 use Rattle.rules.proofs.Reflection.{Says, says-as, says-or, says-and, says-eq, says-ne, says-lt, denied}
 use Rattle.rules.proofs.Places.{Renders, end, skip, test, stop, upFrom}

@@ -10,6 +10,7 @@ use Rattle.rules.specs.Lookups.{ask}
 use Rattle.rules.specs.Walks.{defaultHop, directedHop}
 use Rattle.rules.specs.Chain.{lastOf}
 use Rattle.rules.specs.Relations.{IssuerOf, Walks, endsOutside, endsInside, endsWithoutLink, goesOn, Directs, arrives, takes, follows, Joins, same, meets, ahead, back, issuers, externals}
+use Rattle.rules.proofs.RowTests.{is-external, not-external}
 use Rattle.rules.proofs.Facts.{Facts}
 use Rattle.rules.proofs.Paths.{last-one, last-after, Upward, alone, upward-cut}
 use Rattle.rules.proofs.Runs.{runs-upward}
@@ -30,8 +31,8 @@ module _ (r : Rows) (F : Facts r) (s : ℕ) where
   Ending c TooLong = Unit {0}
 
   pub walks-end : (c : ℕ) (path : List ℕ) (e : WalkEnd) → Walks (r .csds) (r .links) s c path e → Ending (lastOf path) e
-  walks-end c path e (endsOutside x) = rw (last-one c) x
-  walks-end c path e (endsInside l x i) = rw (last-one c) (x, (l, i))
+  walks-end c path e (endsOutside x) = rw (last-one c) (is-external (r .csds) c x)
+  walks-end c path e (endsInside l x i) = rw (last-one c) (not-external (r .csds) c x, (l, i))
   walks-end c path e (endsWithoutLink x n m) = tt
   walks-end c path e (goesOn {path = rest} l x n d w) =
       rw (last-after c (l .technical) rest (walks-upward (l .technical) rest e w .starts)) (walks-end (l .technical) rest e w)

@@ -15,8 +15,8 @@ use Rattle.rules.specs.Lookups.{homeOf}
 use Rattle.rules.specs.Chain.{stepLimit}
 use Rattle.rules.specs.Booking.{Way, incoming, outgoing, limit, cashCount, heldIn, cashOn, sum, everyAccount, participants, participantSum, cashSum, moveStep, payment}
 use Rattle.rules.specs.Calls.{Store, Call, enter, move, pay, settle, derive, Outcome, Item, item, run, desk, core, deskSecurityTotal, deskCashTotal, success, written, lentSteps, isAccepted, numberOf, unitsNumber, centsNumber, emptyStore}
-use Rattle.rules.specs.Relations.{ChainIs}
-use Rattle.rules.specs.Refusals.{places, NoneApplies, First, Is, ParticipantOrOmnibus, Beyond, Sound, Misfits, ContraOf, Applies, UnitsTotalRefused, CashTotalRefused}
+use Rattle.rules.specs.Relations.{Is, ChainIs}
+use Rattle.rules.specs.Refusals.{places, NoneApplies, First, ParticipantOrOmnibus, Beyond, Sound, Misfits, ContraOf, Applies, UnitsTotalRefused, CashTotalRefused}
 
 -- ---- Demand 1: "What it can't accept it refuses by the documents' number; directory, positions, cash and step list are then as before."
 

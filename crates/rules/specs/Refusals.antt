@@ -16,7 +16,7 @@ use Rattle.rules.specs.Entries.{Row, csdRow, securityRow, accountRow, pa
 use Rattle.rules.specs.Chain.{stepLimit}
 use Rattle.rules.specs.Booking.{Way, outgoing, limit, positionCount, cashCount, heldIn, cashOn, moveStep, payment}
 use Rattle.rules.specs.Calls.{Store, Call, enter, move, pay, settle, derive}
-use Rattle.rules.specs.Relations.{IssuerOf, DefaultOf, LinkTo, NoIssuer, DefaultWalk, NoMeeting, NoDirected, Joins, ChainIs}
+use Rattle.rules.specs.Relations.{Is, External, InT2S, IssuerOf, DefaultOf, LinkTo, NoIssuer, DefaultWalk, NoMeeting, NoDirected, Joins, ChainIs}
 
 -- ---- the numbers
 
@@ -35,21 +35,9 @@ pub data First (applies : ℕ → Type 0) (n : ℕ) : List ℕ → Type 0 where
 
 -- ---- rows
 
--- row n of a table is x: "numbered from 0 by entry"
-abbrev pub Is : {A : Type 0} → List A → ℕ → A → Type 0
-Is rows n x = getElem? rows n ≡ some x
-
 -- the "number names no row"
 abbrev pub NoRow : {A : Type 0} → List A → ℕ → Type 0
 NoRow rows n = length rows ≤ n
-
--- "type 0 in T2S, 1 external"
-abbrev pub External : List Csd → ℕ → Type 0
-External cs c = (x : Csd) × Is cs c x × (x .external ≡ 1)
-
--- in T2S is what is not external
-abbrev pub InT2S : List Csd → ℕ → Type 0
-InT2S cs c = External cs c → ⊥
 
 -- a participant or omnibus account
 abbrev pub ParticipantOrOmnibus : List Account → ℕ → Type 0

@@ -1,15 +1,27 @@
 -- The walks and the chain of document 01 once more, as relations without a counter: a constructor for each way that it gives.
 use mathlib.Core.Path.{_≡_}
 use mathlib.Core.Logic.{_≢_}
-use mathlib.Core.Bool.{true, false}
 use mathlib.Core.List.{List, [], _∷_, _++_, List·Memᴰ}
 use Prim.Native.Nat.{ℕ, _≤_}
-use lib.ListN.{length}
+use mathlib.Core.Option.{some}
+use lib.ListN.{length, getElem?}
 use Rattle.rules.specs.Types.{Csd, Pair, Link, Step, WalkEnd, Inside, Outside, NoLink, Join, Meeting, Issuers, Externals}
-use Rattle.rules.specs.Directory.{Rows, external}
-use Rattle.rules.specs.Walks.{sideLimit, arrived}
+use Rattle.rules.specs.Directory.{Rows}
+use Rattle.rules.specs.Walks.{sideLimit}
 use Rattle.rules.specs.Lookups.{homeOf}
 use Rattle.rules.specs.Chain.{step, turned, lastOf}
+
+-- row n of a table is x: "numbered from 0 by entry"
+abbrev pub Is : {A : Type 0} → List A → ℕ → A → Type 0
+Is rows n x = getElem? rows n ≡ some x
+
+-- "type 0 in T2S, 1 external"
+abbrev pub External : List Csd → ℕ → Type 0
+External cs c = (x : Csd) × Is cs c x × (x .external ≡ 1)
+
+-- in T2S is what is not external
+abbrev pub InT2S : List Csd → ℕ → Type 0
+InT2S cs c = External cs c → ⊥
 
 module _ (cs : List Csd) (ls : List Link) (s : ℕ) where
   -- an issuer link of the CSD c for the security
@@ -49,10 +61,10 @@ module _ (cs : List Csd) (ls : List Link) (s : ℕ) where
 
   -- A walk along default links, the CSDs that it names, and how it ends.
   pub data Walks : ℕ → List ℕ → WalkEnd → Type 0 where
-    endsOutside : {c : ℕ} → external cs c ≡ true → Walks c (c ∷ []) (Outside c)
-    endsInside : {c : ℕ} (l : Link) → external cs c ≡ false → IssuerOf c l → Walks c (c ∷ []) (Inside c)
-    endsWithoutLink : {c : ℕ} → external cs c ≡ false → NoIssuer c → NoDefault c → Walks c (c ∷ []) NoLink
-    goesOn : {c : ℕ} {path : List ℕ} {e : WalkEnd} (l : Link) → external cs c ≡ false → NoIssuer c → DefaultOf c l → Walks (l .technical) path e → Walks c (c ∷ path) e
+    endsOutside : {c : ℕ} → External cs c → Walks c (c ∷ []) (Outside c)
+    endsInside : {c : ℕ} (l : Link) → InT2S cs c → IssuerOf c l → Walks c (c ∷ []) (Inside c)
+    endsWithoutLink : {c : ℕ} → InT2S cs c → NoIssuer c → NoDefault c → Walks c (c ∷ []) NoLink
+    goesOn : {c : ℕ} {path : List ℕ} {e : WalkEnd} (l : Link) → InT2S cs c → NoIssuer c → DefaultOf c l → Walks (l .technical) path e → Walks c (c ∷ path) e
 
   -- "a side names at most 8 CSDs, start and external end counted"
   pub record DefaultWalk (c : ℕ) (path : List ℕ) (e : WalkEnd) : Type 0 where
@@ -62,8 +74,8 @@ module _ (cs : List Csd) (ls : List Link) (s : ℕ) where
   -- A walk directed to t that reaches it, and the CSDs that it names.
   pub data Directs (t : ℕ) : ℕ → List ℕ → Type 0 where
     arrives : Directs t t (t ∷ [])
-    takes : {c : ℕ} (l : Link) → c ≢ t → external cs c ≡ false → LinkTo t c l → Directs t c (c ∷ t ∷ [])
-    follows : {c : ℕ} {path : List ℕ} (l : Link) → c ≢ t → external cs c ≡ false → NoLinkTo t c → NoIssuer c → DefaultOf c l → Directs t (l .technical) path → Directs t c (c ∷ path)
+    takes : {c : ℕ} (l : Link) → c ≢ t → InT2S cs c → LinkTo t c l → Directs t c (c ∷ t ∷ [])
+    follows : {c : ℕ} {path : List ℕ} (l : Link) → c ≢ t → InT2S cs c → NoLinkTo t c → NoIssuer c → DefaultOf c l → Directs t (l .technical) path → Directs t c (c ∷ path)
 
   -- a directed walk names at most 8 CSDs, its target counted
   pub record DirectedWalk (t c : ℕ) (path : List ℕ) : Type 0 where
@@ -82,10 +94,10 @@ module _ (cs : List Csd) (ls : List Link) (s : ℕ) where
     pub receivingEnd : WalkEnd
     pub delivering : DefaultWalk D (before ++ (meeting ∷ after)) deliveringEnd
     pub receiving : DefaultWalk R (beneath ++ (meeting ∷ above)) receivingEnd
-    pub deliveringArrived : arrived deliveringEnd ≡ true
-    pub receivingArrived : arrived receivingEnd ≡ true
-    pub inT2S : external cs meeting ≡ false
-    pub first : (c : ℕ) → List·Memᴰ c before → external cs c ≡ false → List·Memᴰ c (beneath ++ (meeting ∷ above)) → ⊥
+    pub deliveringArrived : deliveringEnd ≢ NoLink
+    pub receivingArrived : receivingEnd ≢ NoLink
+    pub inT2S : InT2S cs meeting
+    pub first : (c : ℕ) → List·Memᴰ c before → InT2S cs c → List·Memᴰ c (beneath ++ (meeting ∷ above)) → ⊥
     pub once : List·Memᴰ meeting beneath → ⊥
     pub upward : up ≡ before ++ (meeting ∷ [])
     pub downward : down ≡ beneath ++ (meeting ∷ [])
