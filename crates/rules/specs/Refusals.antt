@@ -3,11 +3,10 @@
 use mathlib.Core.Path.{_≡_}
 use mathlib.Core.Logic.{_≢_, _⊎_}
 use mathlib.Core.List.{List, [], _∷_, _++_, reverse, List·Memᴰ}
-use mathlib.Core.Option.{some}
 use Prim.Native.Nat.{ℕ, _+_, _*_, _≤_, _<_}
 use lib.IntN.{ℤ, pos, negℤ, _+ℤ_, _-ℤ_}
 use lib.Signed.{_<ℤ_}
-use lib.ListN.{length, take, getElem?}
+use lib.ListN.{length, take}
 use Rattle.rules.specs.Types.{Csd, Security, Account, Pair, Link, Directory, Half, Step, WalkEnd, Inside, Outside, NoLink, Join}
 use Rattle.rules.specs.Identifiers.{byteAt}
 use Rattle.rules.specs.Directory.{Rows, rowsOf, csdLimit, securityLimit, accountLimit, pairLimit, linkLimit, noCsd, noAccount}

@@ -2,8 +2,8 @@
 use mathlib.Core.Path.{_≡_}
 use mathlib.Core.Logic.{_≢_}
 use mathlib.Core.List.{List, [], _∷_, _++_, List·Memᴰ}
-use Prim.Native.Nat.{ℕ, _≤_}
 use mathlib.Core.Option.{some}
+use Prim.Native.Nat.{ℕ, _≤_}
 use lib.ListN.{length, getElem?}
 use Rattle.rules.specs.Types.{Csd, Pair, Link, Step, WalkEnd, Inside, Outside, NoLink, Join, Meeting, Issuers, Externals}
 use Rattle.rules.specs.Directory.{Rows}
