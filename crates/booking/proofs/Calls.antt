@@ -4,7 +4,7 @@ use mathlib.Core.Path.{_≡_, refl}
 use mathlib.Core.List.{List, []}
 use Rattle.rules.specs.declared.Half.{Half}
 use Rattle.rules.specs.declared.Step.{Step}
-use Rattle.rules.specs.Tests.{lowest}
+use Rattle.rules.specs.Tests.{firstOf}
 use Rattle.rules.specs.Directory.{rowsOf}
 use Rattle.rules.specs.Lookups.{Lookups, ask}
 use Rattle.rules.specs.Chain.{stepsOf}
@@ -37,7 +37,7 @@ module _ (st : Store) where
 
   pub core-moves : (w : Way) (a s q : ℕ) → core (move w a s q) st ≡ movedOn st (moveOutcome rows (st .positions) w a s q)
   unfolding core moveOutcome
-  core-moves w a s q = go (lowest (moveConditions rows (st .positions) w a s q))
+  core-moves w a s q = go (firstOf (moveConditions rows (st .positions) w a s q))
     where
       go : (n : ℕ) → outcome n (move w a s q) st ≡ movedOn st (moveOutcomeBy n (st .positions) (booked (stepsOf (moveChain rows w a s)) s q (st .positions)))
       go zero = refl
@@ -45,7 +45,7 @@ module _ (st : Store) where
 
   pub core-pays : (w : Way) (a m : ℕ) → core (pay w a m) st ≡ paidOn st (payOutcome rows (st .cash) w a m)
   unfolding core payOutcome
-  core-pays w a m = go (lowest (payConditions rows (st .cash) w a m))
+  core-pays w a m = go (firstOf (payConditions rows (st .cash) w a m))
     where
       go : (n : ℕ) → outcome n (pay w a m) st ≡ paidOn st (payOutcomeBy n (st .cash) (addCents (st .cash) a (payment w m)))
       go zero = refl
@@ -53,7 +53,7 @@ module _ (st : Store) where
 
   pub core-settles : (h g : Half) (lent : List Step) → core (settle h g lent) st ≡ settledOn st lent (settleOutcome rows (st .positions) (st .cash) h g)
   unfolding core settleOutcome
-  core-settles h g lent = go (lowest (settleConditions rows (st .positions) (st .cash) h g))
+  core-settles h g lent = go (firstOf (settleConditions rows (st .positions) (st .cash) h g))
     where
       go : (n : ℕ) → outcome n (settle h g lent) st ≡ settledOn st lent (settleOutcomeBy n (st .positions) (st .cash) h g (stepsOf (halvesChain rows h g)))
       go zero = refl

@@ -11,12 +11,12 @@ use borrow.Author.Tests.{ne-eqb}
 use Rattle.rules.specs.declared.Step.{Step}
 use Rattle.rules.specs.declared.Answer.{Answer}
 use Rattle.rules.specs.declared.Answer.the-variants.{Accepted, Refused}
-use Rattle.rules.specs.Tests.{Condition, _when_, lowest}
+use Rattle.rules.specs.Tests.{Condition, _when_, firstOf}
 use Rattle.rules.specs.Lookups.{Lookups}
 use Rattle.rules.specs.Chain.{Chain, chained, stepsOf, chainConditions}
 use Rattle.rules.specs.Booking.{Way, limit, moveStep, contra, moveChain, moveConditions, moved, booked, stepShort, stepBeyond, unitsShort, unitsBeyond}
 use Rattle.rules.proofs.Basics.{quiet}
-use Rattle.rules.proofs.Conditions.{lowest-first, lowest-then}
+use Rattle.rules.proofs.Conditions.{first-before, first-after}
 use Rattle.booking.specs.Room.{Room}
 use Rattle.booking.specs.Moves.{operandConditions, stepConditions, moveOutcome}
 use Rattle.booking.proofs.Booked.{Touches, touched, room}
@@ -50,18 +50,18 @@ module _ (k : Lookups) (p : List ℤ) (w : Way) (a s q : ℕ) where
   abbrev later : Chain → List Condition
   later x = chainConditions x ++ (20 when unitsShort (k .kind) p s q (stepsOf x) ∷ 22 when unitsBeyond p s q (stepsOf x) ∷ [])
 
-  refused-with : (n : ℕ) → n ≡ lowest (moveConditions k p w a s q) → (n ≡ 0 → ⊥) → Moves (Refused n) p
+  refused-with : (n : ℕ) → n ≡ firstOf (moveConditions k p w a s q) → (n ≡ 0 → ⊥) → Moves (Refused n) p
   unfolding moveOutcome
   refused-with zero e nonzero = absurd (nonzero refl)
   refused-with (suc n) e nonzero = rw (← e) (refl, refl)
 
-  pub by-operands : (n : ℕ) → n ≡ lowest (operandConditions k a s q) → (n ≡ 0 → ⊥) → Moves (Refused n) p
+  pub by-operands : (n : ℕ) → n ≡ firstOf (operandConditions k a s q) → (n ≡ 0 → ⊥) → Moves (Refused n) p
   by-operands n e nonzero =
-      refused-with n (e ∙ sym (lowest-first (operandConditions k a s q) (later (moveChain k w a s)) (λ z. nonzero (e ∙ z)))) nonzero
+      refused-with n (e ∙ sym (first-before (operandConditions k a s q) (later (moveChain k w a s)) (λ z. nonzero (e ∙ z)))) nonzero
 
-  module _ (n : ℕ) (is : n ≡ lowest (operandConditions k a s q)) (ok : n ≡ 0) where
-    then-later : lowest (moveConditions k p w a s q) ≡ lowest (later (moveChain k w a s))
-    then-later = lowest-then (operandConditions k a s q) (later (moveChain k w a s)) (quiet (operandConditions k a s q) refl (sym is ∙ ok))
+  module _ (n : ℕ) (is : n ≡ firstOf (operandConditions k a s q)) (ok : n ≡ 0) where
+    then-later : firstOf (moveConditions k p w a s q) ≡ firstOf (later (moveChain k w a s))
+    then-later = first-after (operandConditions k a s q) (later (moveChain k w a s)) (quiet (operandConditions k a s q) refl (sym is ∙ ok))
 
     module _ (c : ℕ) (home : c ≡ k .home a) where
       pub by-contra : contra k s c ≡ none → Moves (Refused 19) p
@@ -70,12 +70,12 @@ module _ (k : Lookups) (p : List ℤ) (w : Way) (a s q : ℕ) where
 
       -- the step is judged, and the positions left are told by its number
       module _ (other : ℕ) (found : contra k s c ≡ some other) (x : Step) (step : x ≡ moveStep w c a other)
-          (m : ℕ) (number : m ≡ lowest (stepConditions (k .kind) p s q x)) (p′ : List ℤ) (left : p′ ≡ cond (eqb m 0) (moved x s q p) p) where
+          (m : ℕ) (number : m ≡ firstOf (stepConditions (k .kind) p s q x)) (p′ : List ℤ) (left : p′ ≡ cond (eqb m 0) (moved x s q p) p) where
         only : moveChain k w a s ≡ chained (x ∷ [])
         unfolding moveChain
         only = rw (← home, found, step)
 
-        whole : m ≡ lowest (moveConditions k p w a s q)
+        whole : m ≡ firstOf (moveConditions k p w a s q)
         whole = number ∙ sym (then-later ∙ rw (only, short-one p s q x (k .kind), beyond-one p s q x))
 
         pub by-step : (m ≡ 0 → ⊥) → Moves (Refused m) p′

@@ -10,7 +10,7 @@ use mir.Syntax.{w64}
 use mir.Val.{SFits}
 use Rattle.rules.specs.declared.Cents.{Cents}
 use Rattle.rules.specs.declared.Answer.the-variants.{Accepted, Refused}
-use Rattle.rules.specs.Tests.{lowest}
+use Rattle.rules.specs.Tests.{firstOf}
 use Rattle.rules.specs.Lookups.{Lookups}
 use Rattle.rules.specs.Booking.{Way, limit, balance, addCents, plusCents, cents, lessCents, cashOn, cashBeyond, payment, payConditions, paid, paymentBeyond}
 use Rattle.rules.proofs.Basics.{or-none}
@@ -52,13 +52,13 @@ payment-signed false m = refl
 
 -- ---- a pay-in or pay-out by its number
 module _ (k : Lookups) (c : List ℤ) (w : Way) (a m : ℕ) where
-  pub pay-refused : (n : ℕ) → n ≡ lowest (payConditions k c w a m) → (n ≡ 0 → ⊥)
+  pub pay-refused : (n : ℕ) → n ≡ firstOf (payConditions k c w a m) → (n ≡ 0 → ⊥)
       → (Refused n ≡ payOutcome k c w a m .answer) × (c ≡ payOutcome k c w a m .cash)
   unfolding payOutcome
   pay-refused zero e nonzero = absurd (nonzero refl)
   pay-refused (suc n) e nonzero = rw (← e) (refl, refl)
 
-  pub pay-done : (n : ℕ) → n ≡ lowest (payConditions k c w a m) → n ≡ 0
+  pub pay-done : (n : ℕ) → n ≡ firstOf (payConditions k c w a m) → n ≡ 0
       → (Accepted ≡ payOutcome k c w a m .answer) × (addCents c a (payment w m) ≡ payOutcome k c w a m .cash)
   unfolding payOutcome
   pay-done n e clear = rw (← e, clear) (refl, refl)

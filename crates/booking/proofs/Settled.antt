@@ -10,7 +10,7 @@ use Rattle.rules.specs.declared.Half.{Half}
 use Rattle.rules.specs.declared.Step.{Step}
 use Rattle.rules.specs.declared.Answer.{Answer}
 use Rattle.rules.specs.declared.Answer.the-variants.{Booked, Refused}
-use Rattle.rules.specs.Tests.{Condition, lowest}
+use Rattle.rules.specs.Tests.{Condition, firstOf}
 use Rattle.rules.specs.Lookups.{Lookups}
 use Rattle.rules.specs.Chain.{chained, stepsOf, chainConditions}
 use Rattle.rules.specs.Booking.{booked, paid, unitsShort, unitsBeyond, cashShort, paymentBeyond}
@@ -22,7 +22,7 @@ use Rattle.chain.specs.Steps.{FoundIn}
 use Rattle.chain.specs.Derivation.{Finds, derivedInto}
 use Rattle.chain.proofs.StepList.{steps-none, steps-counted}
 use Rattle.chain.proofs.Linking.{found-refused, found-chained}
-use Rattle.rules.proofs.Conditions.{lowest-first, lowest-then}
+use Rattle.rules.proofs.Conditions.{first-before, first-after}
 use Rattle.chain.proofs.Deriving.{chain-fits, derives-misfit, derives-halves, derives-refused, derives-chained}
 use Rattle.booking.specs.Settling.{settleOutcome, settleInto, Settles}
 use Rattle.booking.proofs.Refused.{book-open}
@@ -33,7 +33,7 @@ settle-fits l k p c h g size = rw (eq-eqb (length l) stepNumbers size)
 
 module _ (k : Lookups) (p c : List ℤ) (h g : Half) where
   -- what 20 to 22 let pass can be booked and paid
-  pub booking-open : (xs : List Step) → lowest (bookConditions k p c h g xs) ≡ 0
+  pub booking-open : (xs : List Step) → firstOf (bookConditions k p c h g xs) ≡ 0
       → (unitsBeyond p (h .security) (h .quantity) xs ≡ false) × (paymentBeyond c (g .account) (h .account) (h .amount) ≡ false)
   booking-open xs e =
       let units = unitsBeyond p (h .security) (h .quantity) xs in
@@ -52,7 +52,7 @@ module _ (k : Lookups) (p c : List ℤ) (h g : Half) where
         rw (ne-eqb (length l) stepNumbers other) (record { answer = refl; steps = steps-none l; positions = refl; cash = refl; list = list })
 
     module _ (size : length l ≡ stepNumbers) where
-      refused-with : (n : ℕ) (m : List ℕ) → n ≡ lowest (settleConditions k p c h g) → (n ≡ 0 → ⊥) → m ≡ noted (derivedInto l k h g .steps) l
+      refused-with : (n : ℕ) (m : List ℕ) → n ≡ firstOf (settleConditions k p c h g) → (n ≡ 0 → ⊥) → m ≡ noted (derivedInto l k h g .steps) l
           → Leaves (Refused n) p c m
       unfolding settleOutcome
       refused-with zero m e some list = absurd (some refl)
@@ -66,15 +66,15 @@ module _ (k : Lookups) (p c : List ℤ) (h g : Half) where
       in-order : settleConditions k p c h g ≡ halvesConditions k h g ++ later
       in-order = append-assoc (halvesConditions k h g) (chainConditions (halvesChain k h g)) (bookConditions k p c h g (stepsOf (halvesChain k h g)))
 
-      pub by-halves : (n : ℕ) → n ≡ lowest (halvesConditions k h g) → (n ≡ 0 → ⊥) → Leaves (Refused n) p c l
+      pub by-halves : (n : ℕ) → n ≡ firstOf (halvesConditions k h g) → (n ≡ 0 → ⊥) → Leaves (Refused n) p c l
       by-halves n e some =
-          let first = lowest-first (halvesConditions k h g) later (λ z. some (e ∙ z)) in
-          refused-with n l (e ∙ sym (ap lowest in-order ∙ first)) some (derives-halves l k h g size n e some .list)
+          let first = first-before (halvesConditions k h g) later (λ z. some (e ∙ z)) in
+          refused-with n l (e ∙ sym (ap firstOf in-order ∙ first)) some (derives-halves l k h g size n e some .list)
 
       -- the halves are in order, and their chain is looked for
-      module _ (ok : lowest (halvesConditions k h g) ≡ 0) (m : List ℕ) (r : Found) (found : Finds l m k (h .security) (h .account) (g .account) r) where
-        then-later : lowest (settleConditions k p c h g) ≡ lowest later
-        then-later = ap lowest in-order ∙ lowest-then (halvesConditions k h g) later (quiet (halvesConditions k h g) refl ok)
+      module _ (ok : firstOf (halvesConditions k h g) ≡ 0) (m : List ℕ) (r : Found) (found : Finds l m k (h .security) (h .account) (g .account) r) where
+        then-later : firstOf (settleConditions k p c h g) ≡ firstOf later
+        then-later = ap firstOf in-order ∙ first-after (halvesConditions k h g) later (quiet (halvesConditions k h g) refl ok)
 
         is-found : FoundIn l m (halvesChain k h g) r
         is-found = rw (chain-fits l k (h .security) (h .account) (g .account) size) at found
@@ -84,11 +84,11 @@ module _ (k : Lookups) (p c : List ℤ) (h g : Half) where
             refused-with (r .refusal) m (sym (then-later ∙ rw (found-refused is-found some .0))) some (derives-refused l k h g size ok m r found some .list)
 
         -- there is a chain: its booking decides
-        module _ (clear : r .refusal ≡ 0) (n : ℕ) (number : n ≡ lowest (bookConditions k p c h g (stepsIn m (r .count)))) where
+        module _ (clear : r .refusal ≡ 0) (n : ℕ) (number : n ≡ firstOf (bookConditions k p c h g (stepsIn m (r .count)))) where
           chain-is : halvesChain k h g ≡ chained (stepsIn m (r .count))
           chain-is = found-chained is-found clear
 
-          whole : n ≡ lowest (settleConditions k p c h g)
+          whole : n ≡ firstOf (settleConditions k p c h g)
           whole = number ∙ sym (then-later ∙ rw chain-is)
 
           list : m ≡ noted (derivedInto l k h g .steps) l

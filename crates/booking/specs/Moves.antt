@@ -7,7 +7,7 @@ use lib.IntN.{ℤ}
 use Rattle.rules.specs.declared.Step.{Step}
 use Rattle.rules.specs.declared.Answer.{Answer}
 use Rattle.rules.specs.declared.Answer.the-variants.{Accepted, Refused}
-use Rattle.rules.specs.Tests.{Condition, _when_, lowest}
+use Rattle.rules.specs.Tests.{Condition, _when_, firstOf}
 use Rattle.rules.specs.Lookups.{Lookups}
 use Rattle.rules.specs.Chain.{stepsOf}
 use Rattle.rules.specs.Booking.{Way, incoming, outgoing, outOfRange, stepShort, stepBeyond, moveChain, moveConditions, booked}
@@ -45,4 +45,4 @@ moveOutcomeBy (suc n) before after = record { answer = Refused (suc n); position
 
 -- a bring-in or take-out of q units of s on the account a
 unfoldable pub moveOutcome : Lookups → List ℤ → Way → ℕ → ℕ → ℕ → MoveOutcome
-moveOutcome k p w a s q = moveOutcomeBy (lowest (moveConditions k p w a s q)) p (booked (stepsOf (moveChain k w a s)) s q p)
+moveOutcome k p w a s q = moveOutcomeBy (firstOf (moveConditions k p w a s q)) p (booked (stepsOf (moveChain k w a s)) s q p)

@@ -4,7 +4,7 @@ use mathlib.Core.List.{List}
 use lib.IntN.{ℤ}
 use Rattle.rules.specs.declared.Answer.{Answer}
 use Rattle.rules.specs.declared.Answer.the-variants.{Accepted, Refused}
-use Rattle.rules.specs.Tests.{lowest}
+use Rattle.rules.specs.Tests.{firstOf}
 use Rattle.rules.specs.Lookups.{Lookups}
 use Rattle.rules.specs.Booking.{Way, payment, payConditions, addCents}
 
@@ -20,4 +20,4 @@ payOutcomeBy (suc n) before after = record { answer = Refused (suc n); cash = be
 
 -- an amount m paid in or out on the account a
 unfoldable pub payOutcome : Lookups → List ℤ → Way → ℕ → ℕ → PayOutcome
-payOutcome k c w a m = payOutcomeBy (lowest (payConditions k c w a m)) c (addCents c a (payment w m))
+payOutcome k c w a m = payOutcomeBy (firstOf (payConditions k c w a m)) c (addCents c a (payment w m))

@@ -10,7 +10,7 @@ use Rattle.rules.specs.declared.Half.{Half}
 use Rattle.rules.specs.declared.Step.{Step}
 use Rattle.rules.specs.declared.Answer.{Answer}
 use Rattle.rules.specs.declared.Answer.the-variants.{Booked, Refused}
-use Rattle.rules.specs.Tests.{lowest}
+use Rattle.rules.specs.Tests.{firstOf}
 use Rattle.rules.specs.Lookups.{Lookups}
 use Rattle.rules.specs.Chain.{stepsOf}
 use Rattle.rules.specs.Booking.{booked, paid}
@@ -38,7 +38,7 @@ settleOutcomeBy (suc n) p c h g xs = record { answer = Refused (suc n); steps = 
 
 -- the settlement of the halves h, which delivers, and g, which receives
 unfoldable pub settleOutcome : Lookups → List ℤ → List ℤ → Half → Half → SettleOutcome
-settleOutcome k p c h g = settleOutcomeBy (lowest (settleConditions k p c h g)) p c h g (stepsOf (halvesChain k h g))
+settleOutcome k p c h g = settleOutcomeBy (firstOf (settleConditions k p c h g)) p c h g (stepsOf (halvesChain k h g))
 
 -- the same into the lent list l; 3 where the list has another length
 unfoldable pub settleInto : List ℕ → Lookups → List ℤ → List ℤ → Half → Half → SettleOutcome

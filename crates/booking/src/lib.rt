@@ -5,7 +5,7 @@
 pub(crate) mod numbers; // numbers.rt: one number of a list, read and changed
 pub mod positions; // positions.rt: units of securities, read and moved
 pub mod cash; // cash.rt: cents, read and paid; 21 and 22
-pub mod refusals; // refusals.rt: the lowest number that applies
+pub mod refusals; // refusals.rt: the first number that applies
 pub mod judging; // judging.rt: 20 and 22 of steps
 pub mod moves; // moves.rt: bring in and take out
 pub mod payments; // payments.rt: pay in and pay out

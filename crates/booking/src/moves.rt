@@ -23,7 +23,7 @@ ghost use mathlib.Core.Bool.{cond};
 ghost use mathlib.Core.Option.{some};
 ghost use Prim.Native.Nat.{_≤_};
 ghost use lib.Dec.{eqb};
-ghost use Rattle.rules.specs.Tests.{lowest};
+ghost use Rattle.rules.specs.Tests.{firstOf};
 ghost use Rattle.rules.specs.Booking.{limit, interCsd, contra, moveStep, moved};
 ghost use Rattle.index.specs.Asked.{asked};
 ghost use Rattle.booking.specs.Moves.{wayOf, contraFound, operandConditions, stepConditions, moveOutcome};
@@ -60,7 +60,7 @@ fn contra_of(index: &[u16; INDEX], security: u8, csd: u8) -> Contra
 
 // 6, 7 and 10; 0 where none applies.
 fn move_refusal(index: &[u16; INDEX], account: u16, security: u8, quantity: u64) -> u8
-    ensures { λ r. ⌜ r ≡ lowest (operandConditions (asked (now (index .entry))) account security quantity) ⌝ }
+    ensures { λ r. ⌜ r ≡ firstOf (operandConditions (asked (now (index .entry))) account security quantity) ⌝ }
 {
     let known = is_account(index, account);
     let listed = is_security(index, security);
@@ -96,7 +96,7 @@ fn book_step(
     step: Step,
 ) -> u8
     requires { ⌜ quantity ≤ limit ⌝ }
-    ensures refusal { λ r. ⌜ r ≡ lowest (stepConditions (asked (now (index .entry)) .kind) (now (positions .entry)) security quantity step) ⌝ }
+    ensures refusal { λ r. ⌜ r ≡ firstOf (stepConditions (asked (now (index .entry)) .kind) (now (positions .entry)) security quantity step) ⌝ }
     ensures left { λ r. ⌜ now (positions .exit) ≡ cond (eqb r 0) (moved step security quantity (now (positions .entry))) (now (positions .entry)) ⌝ }
 {
     let judged = judge_step(index, positions, security, quantity, step);

@@ -14,7 +14,7 @@ use rules::Answer;
 use rules::Cents;
 use rules::PARTICIPANT;
 ghost use mathlib.Core.Path.{_≡_};
-ghost use Rattle.rules.specs.Tests.{lowest};
+ghost use Rattle.rules.specs.Tests.{firstOf};
 ghost use Rattle.rules.specs.Booking.{payment, payShort, cashBeyond, payConditions};
 ghost use Rattle.index.specs.Asked.{asked};
 ghost use Rattle.booking.specs.Moves.{wayOf};
@@ -42,7 +42,7 @@ fn pay_beyond(cash: &[i64], incoming: bool, account: u16, amount: u64) -> bool
 
 // 6 to 22, judged on the cash as it is lent.
 fn pay_refusal(index: &[u16; INDEX], cash: &[i64], incoming: bool, account: u16, amount: u64) -> u8
-    ensures { λ r. ⌜ r ≡ lowest (payConditions (asked (now (index .entry))) (now (cash .entry)) (wayOf incoming) account amount) ⌝ }
+    ensures { λ r. ⌜ r ≡ firstOf (payConditions (asked (now (index .entry))) (now (cash .entry)) (wayOf incoming) account amount) ⌝ }
 {
     let known = is_account(index, account);
     let range = out_of_range(amount);

@@ -1,4 +1,4 @@
-// "The lowest number that applies is given", of the calls that book.
+// The first number that applies, in the order of places, of the calls that book.
 use rules::LIMIT;
 ghost use mathlib.Core.Path.{_≡_};
 ghost use Rattle.rules.specs.Booking.{outOfRange};
@@ -11,7 +11,7 @@ pub(crate) fn out_of_range(n: u64) -> bool
     (n == 0) | (LIMIT < n)
 }
 
-// The lowest of 20, 21 and 22, or 0.
+// The first of 20, 21 and 22, or 0.
 pub(crate) fn book_refusal(units: bool, cash: bool, beyond: bool) -> u8
     ensures { λ r. ⌜ r ≡ bookRefusal units cash beyond ⌝ }
 {
@@ -27,7 +27,7 @@ pub(crate) fn book_refusal(units: bool, cash: bool, beyond: bool) -> u8
     0
 }
 
-// The lowest of 6, 7 and 10, else the number that comes after them.
+// The first of 6, 7 and 10, else the number that comes after them.
 pub(crate) fn call_refusal(unknown: bool, range: bool, kind: bool, after: u8) -> u8
     ensures { λ r. ⌜ r ≡ callRefusal unknown range kind after ⌝ }
 {

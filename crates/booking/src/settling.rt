@@ -15,7 +15,7 @@ use rules::Half;
 ghost use mathlib.Core.Path.{_≡_};
 ghost use mathlib.Core.Bool.{false};
 ghost use Prim.Native.Nat.{_≤_};
-ghost use Rattle.rules.specs.Tests.{lowest};
+ghost use Rattle.rules.specs.Tests.{firstOf};
 ghost use Rattle.rules.specs.Chain.{stepLimit};
 ghost use Rattle.rules.specs.Booking.{limit, booked, unitsBeyond};
 ghost use Rattle.rules.specs.Calls.{bookConditions};
@@ -45,7 +45,7 @@ fn judge_booking(
     steps: &[u16],
     count: usize,
 ) -> u8
-    ensures { λ r. ⌜ r ≡ lowest (bookConditions (asked (now (index .entry))) (now (positions .entry)) (now (cash .entry)) delivering receiving
+    ensures { λ r. ⌜ r ≡ firstOf (bookConditions (asked (now (index .entry))) (now (positions .entry)) (now (cash .entry)) delivering receiving
         (stepsIn (now (steps .entry)) count)) ⌝ }
 {
     let amount = delivering.amount;

@@ -7,13 +7,13 @@ use borrow.Author.Tests.{eq-eqb, ne-eqb}
 use Rattle.rules.specs.declared.Half.{Half}
 use Rattle.rules.specs.declared.Step.{Step}
 use Rattle.rules.specs.declared.Answer.the-variants.{Chained, Refused}
-use Rattle.rules.specs.Tests.{lowest}
+use Rattle.rules.specs.Tests.{firstOf}
 use Rattle.rules.specs.Directory.{rowsOf}
 use Rattle.rules.specs.Lookups.{Lookups, ask}
 use Rattle.rules.specs.Chain.{chained, unchained, chain, stepsOf, chainConditions}
 use Rattle.rules.specs.Calls.{Store, Outcome, derive, outcome, core, written, halvesConditions, halvesChain, deriveConditions}
 use Rattle.rules.proofs.Basics.{quiet, impossible}
-use Rattle.rules.proofs.Conditions.{lowest-first, lowest-then}
+use Rattle.rules.proofs.Conditions.{first-before, first-after}
 use Rattle.chain.specs.StepList.{stepNumbers, stepsIn, noted}
 use Rattle.chain.specs.Derivation.{chainInto, Finds, Derived, derivedBy, derived, derivedInto, DerivedIn, Derives}
 use Rattle.chain.specs.declared.steps.Found.{Found}
@@ -41,20 +41,20 @@ module _ (l : List ℕ) (k : Lookups) (h g : Half) where
 
 -- ---- the derivation by its number
 module _ (k : Lookups) (h g : Half) where
-  by-number : (n : ℕ) → lowest (deriveConditions k h g) ≡ n → derived k h g ≡ derivedBy n (stepsOf (halvesChain k h g))
+  by-number : (n : ℕ) → firstOf (deriveConditions k h g) ≡ n → derived k h g ≡ derivedBy n (stepsOf (halvesChain k h g))
   unfolding derived
   by-number n e = ap (λ (i : ℕ). derivedBy i (stepsOf (halvesChain k h g))) e
 
-  refused-with : (n : ℕ) → lowest (deriveConditions k h g) ≡ n → (n ≡ 0 → ⊥) → derived k h g ≡ derivedBy n []
+  refused-with : (n : ℕ) → firstOf (deriveConditions k h g) ≡ n → (n ≡ 0 → ⊥) → derived k h g ≡ derivedBy n []
   refused-with zero e z = absurd (z refl)
   refused-with (suc n) e z = by-number (suc n) e
 
-  refused-by-halves : (n : ℕ) → n ≡ lowest (halvesConditions k h g) → (n ≡ 0 → ⊥) → derived k h g ≡ derivedBy n []
-  refused-by-halves n e z = refused-with n (lowest-first (halvesConditions k h g) (chainConditions (halvesChain k h g)) (λ w. z (e ∙ w)) ∙ sym e) z
+  refused-by-halves : (n : ℕ) → n ≡ firstOf (halvesConditions k h g) → (n ≡ 0 → ⊥) → derived k h g ≡ derivedBy n []
+  refused-by-halves n e z = refused-with n (first-before (halvesConditions k h g) (chainConditions (halvesChain k h g)) (λ w. z (e ∙ w)) ∙ sym e) z
 
-  module _ (passed : lowest (halvesConditions k h g) ≡ 0) where
-    then-chain : lowest (deriveConditions k h g) ≡ lowest (chainConditions (halvesChain k h g))
-    then-chain = lowest-then (halvesConditions k h g) (chainConditions (halvesChain k h g)) (quiet (halvesConditions k h g) refl passed)
+  module _ (passed : firstOf (halvesConditions k h g) ≡ 0) where
+    then-chain : firstOf (deriveConditions k h g) ≡ firstOf (chainConditions (halvesChain k h g))
+    then-chain = first-after (halvesConditions k h g) (chainConditions (halvesChain k h g)) (quiet (halvesConditions k h g) refl passed)
 
     refused-by-chain : (n : ℕ) → halvesChain k h g ≡ unchained n → (n ≡ 0 → ⊥) → derived k h g ≡ derivedBy n []
     refused-by-chain n e z = refused-with n (then-chain ∙ rw e) z
@@ -72,10 +72,10 @@ module _ (l : List ℕ) (k : Lookups) (h g : Half) where
   derives-misfit z = derived-none l l (derivedInto l k h g) 3 (λ e. impossible (cc)) (derived-misfit l k h g z) refl
 
   module _ (fits : length l ≡ stepNumbers) where
-    pub derives-halves : (n : ℕ) → n ≡ lowest (halvesConditions k h g) → (n ≡ 0 → ⊥) → Derives l l k h g (Refused n)
+    pub derives-halves : (n : ℕ) → n ≡ firstOf (halvesConditions k h g) → (n ≡ 0 → ⊥) → Derives l l k h g (Refused n)
     derives-halves n e z = derived-none l l (derivedInto l k h g) n z (derived-fits l k h g fits ∙ refused-by-halves k h g n e z) refl
 
-    module _ (passed : lowest (halvesConditions k h g) ≡ 0) (m : List ℕ) (r : Found) (f : Finds l m k (h .security) (h .account) (g .account) r) where
+    module _ (passed : firstOf (halvesConditions k h g) ≡ 0) (m : List ℕ) (r : Found) (f : Finds l m k (h .security) (h .account) (g .account) r) where
       chain-is : halvesChain k h g ≡ chainInto l k (h .security) (h .account) (g .account)
       chain-is = sym (chain-fits l k (h .security) (h .account) (g .account) fits)
 
@@ -108,4 +108,4 @@ module _ (st : Store) (h g : Half) (lent : List Step) where
 
   pub core-derives : core (derive h g lent) st ≡ outcomeOf st lent (derived (ask (rowsOf (st .directory))) h g)
   unfolding core derived
-  core-derives = by-cases (lowest (deriveConditions (ask (rowsOf (st .directory))) h g))
+  core-derives = by-cases (firstOf (deriveConditions (ask (rowsOf (st .directory))) h g))

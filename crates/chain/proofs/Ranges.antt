@@ -4,7 +4,7 @@ use mathlib.Core.Path.{_≡_, refl}
 use mathlib.Core.Bool.{false}
 use lib.Dec.{eqb, ltb}
 use Rattle.rules.specs.declared.Half.{Half}
-use Rattle.rules.specs.Tests.{lowest}
+use Rattle.rules.specs.Tests.{firstOf}
 use Rattle.rules.specs.Lookups.{Lookups}
 use Rattle.rules.specs.Booking.{limit, outOfRange, amountOutOfRange}
 use Rattle.rules.specs.Calls.{halfOutOfRange, halvesConditions}
@@ -15,6 +15,6 @@ half-ranged h e =
     let t = or-none (outOfRange (h .quantity)) (amountOutOfRange (h .amount)) e in
     (ltb-not limit (h .quantity) (or-none (eqb (h .quantity) 0) (ltb limit (h .quantity)) (t .0) .1), ltb-not limit (h .amount) (t .1))
 
-pub halves-ranged : (k : Lookups) (h g : Half) → lowest (halvesConditions k h g) ≡ 0 → (h .quantity ≤ limit) × (h .amount ≤ limit)
+pub halves-ranged : (k : Lookups) (h g : Half) → firstOf (halvesConditions k h g) ≡ 0 → (h .quantity ≤ limit) × (h .amount ≤ limit)
 halves-ranged k h g e =
     half-ranged h (or-none (halfOutOfRange h) (halfOutOfRange g) (quiet (halvesConditions k h g) refl e .1 .0) .0)

@@ -9,7 +9,7 @@ use Rattle.rules.specs.declared.Half.{Half}
 use Rattle.rules.specs.declared.Step.{Step}
 use Rattle.rules.specs.declared.Answer.{Answer}
 use Rattle.rules.specs.declared.Answer.the-variants.{Chained, Refused}
-use Rattle.rules.specs.Tests.{lowest}
+use Rattle.rules.specs.Tests.{firstOf}
 use Rattle.rules.specs.Lookups.{Lookups}
 use Rattle.rules.specs.Chain.{Chain, unchained, chain, stepsOf}
 use Rattle.rules.specs.Calls.{countOf, deriveConditions, halvesChain}
@@ -37,7 +37,7 @@ derivedBy (suc n) xs = record { answer = Refused (suc n); steps = [] }
 
 -- the derivation for the halves h, which delivers, and g, which receives
 unfoldable pub derived : Lookups → Half → Half → Derived
-derived k h g = derivedBy (lowest (deriveConditions k h g)) (stepsOf (halvesChain k h g))
+derived k h g = derivedBy (firstOf (deriveConditions k h g)) (stepsOf (halvesChain k h g))
 
 -- the same into the lent list l; 3 where the list has another length
 unfoldable pub derivedInto : List ℕ → Lookups → Half → Half → Derived

@@ -9,7 +9,7 @@ use rules::Half;
 use rules::LIMIT;
 use rules::PARTICIPANT;
 ghost use mathlib.Core.Path.{_≡_};
-ghost use Rattle.rules.specs.Tests.{lowest};
+ghost use Rattle.rules.specs.Tests.{firstOf};
 ghost use Rattle.rules.specs.Calls.{halfUnknown, halfOutOfRange, halvesDiffer, halvesConditions};
 ghost use Rattle.index.specs.Asked.{asked};
 
@@ -43,7 +43,7 @@ fn halves_differ(index: &[u16; INDEX], delivering: Half, receiving: Half) -> boo
 
 // 6 to 13, each over both halves; 0 where none applies.
 pub fn halves_refusal(index: &[u16; INDEX], delivering: Half, receiving: Half) -> u8
-    ensures { λ r. ⌜ r ≡ lowest (halvesConditions (asked (now (index .entry))) delivering receiving) ⌝ }
+    ensures { λ r. ⌜ r ≡ firstOf (halvesConditions (asked (now (index .entry))) delivering receiving) ⌝ }
 {
     if half_unknown(index, delivering) | half_unknown(index, receiving) {
         return 6;

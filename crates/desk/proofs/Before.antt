@@ -7,25 +7,25 @@ use mathlib.Core.List.{List, [], _∷_}
 use native.Mathlib.Omega.{arith}
 use Rattle.rules.specs.declared.Answer.the-variants.{Refused}
 use Rattle.rules.specs.declared.Directory.{Directory}
-use Rattle.rules.specs.Tests.{Condition, _when_, lowest}
+use Rattle.rules.specs.Tests.{Condition, _when_, firstOf}
 use Rattle.rules.specs.Entries.{sound}
 use Rattle.rules.specs.Calls.{Store, Call, outcome, lentSteps, misfit, coreConditions, core, desk}
 use Rattle.desk.specs.Early.{early}
 
 -- the first two conditions alone, then all
 module _ (b s : Bool) (cs : List Condition) where
-  pub lowest-early : lowest (3 when b ∷ 4 when s ∷ []) ≢ 0 → lowest (3 when b ∷ 4 when s ∷ cs) ≡ lowest (3 when b ∷ 4 when s ∷ [])
-  lowest-early ne = go b s ne
+  pub first-early : firstOf (3 when b ∷ 4 when s ∷ []) ≢ 0 → firstOf (3 when b ∷ 4 when s ∷ cs) ≡ firstOf (3 when b ∷ 4 when s ∷ [])
+  first-early ne = go b s ne
     where
-      go : (b s : Bool) → lowest (3 when b ∷ 4 when s ∷ []) ≢ 0 → lowest (3 when b ∷ 4 when s ∷ cs) ≡ lowest (3 when b ∷ 4 when s ∷ [])
+      go : (b s : Bool) → firstOf (3 when b ∷ 4 when s ∷ []) ≢ 0 → firstOf (3 when b ∷ 4 when s ∷ cs) ≡ firstOf (3 when b ∷ 4 when s ∷ [])
       go true s ne = refl
       go false true ne = refl
       go false false ne = absurd (ne refl)
 
-  pub lowest-later : lowest (3 when b ∷ 4 when s ∷ []) ≡ 0 → lowest (3 when b ∷ 4 when s ∷ cs) ≡ lowest cs
-  lowest-later e = go b s e
+  pub first-later : firstOf (3 when b ∷ 4 when s ∷ []) ≡ 0 → firstOf (3 when b ∷ 4 when s ∷ cs) ≡ firstOf cs
+  first-later e = go b s e
     where
-      go : (b s : Bool) → lowest (3 when b ∷ 4 when s ∷ []) ≡ 0 → lowest (3 when b ∷ 4 when s ∷ cs) ≡ lowest cs
+      go : (b s : Bool) → firstOf (3 when b ∷ 4 when s ∷ []) ≡ 0 → firstOf (3 when b ∷ 4 when s ∷ cs) ≡ firstOf cs
       go true s e = let z : ⊥ = omega arith in absurd z
       go false true e = let z : ⊥ = omega arith in absurd z
       go false false e = refl
@@ -45,9 +45,9 @@ module _ (c : Call) (st : Store) (n : ℕ) (e : n ≡ early (misfit c st) (st .d
   pub early-refused : n ≢ 0 → desk c st ≡ record { answer = Refused n; store = st; steps = lentSteps c }
   unfolding desk
   early-refused ne =
-      ap (λ (m : ℕ). outcome m c st) (lowest-early (misfit c st) (not (sound (st .directory))) (coreConditions c st) (λ z. ne (e ∙ z)) ∙ sym e)
+      ap (λ (m : ℕ). outcome m c st) (first-early (misfit c st) (not (sound (st .directory))) (coreConditions c st) (λ z. ne (e ∙ z)) ∙ sym e)
       ∙ refused-by c st n ne
 
   pub early-passed : n ≡ 0 → desk c st ≡ core c st
   unfolding desk core
-  early-passed z = ap (λ (m : ℕ). outcome m c st) (lowest-later (misfit c st) (not (sound (st .directory))) (coreConditions c st) (sym e ∙ z))
+  early-passed z = ap (λ (m : ℕ). outcome m c st) (first-later (misfit c st) (not (sound (st .directory))) (coreConditions c st) (sym e ∙ z))

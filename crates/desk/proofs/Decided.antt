@@ -40,7 +40,7 @@ use Rattle.booking.proofs.Calls.{movedOn, core-moves, paidOn, core-pays, settle
 use Rattle.booking.proofs.Settled.{settle-fits}
 use Rattle.rules.specs.Outcomes.{holding, movementOn, paymentOn, settlementOn, derivationOn, blanks, byValue, replyOf}
 use Rattle.desk.specs.Early.{early, Admits}
-use Rattle.desk.proofs.Before.{lowest-early, lowest-later, early-refused, early-passed}
+use Rattle.desk.proofs.Before.{first-early, first-later, early-refused, early-passed}
 use Rattle.desk.proofs.Lent.{derives, settles, core-few}
 use Rattle.booking.specs.Sums.{securityTotal, cashTotal}
 use Rattle.desk.specs.Replies.{refusal}
@@ -115,13 +115,13 @@ module _ (d : Directory) (p : List ℤ) (s n : ℕ) (k : Kept) (e : Admits (not 
   unfolding deskSecurityTotal
   total-refused ne =
       refused-total n (participantSum (ask (rowsOf d) .kind) p s) ne
-      ∙ ap total (e .number ∙ sym (lowest-early fit (not (sound d)) (securityTotalConditions (ask (rowsOf d)) p s) (λ z. ne (e .number ∙ z))))
+      ∙ ap total (e .number ∙ sym (first-early fit (not (sound d)) (securityTotalConditions (ask (rowsOf d)) p s) (λ z. ne (e .number ∙ z))))
 
   pub total-passed : n ≡ 0 → securityTotal (asked (k .numbers)) p s ≡ deskSecurityTotal d p s
   unfolding deskSecurityTotal securityTotal
   total-passed z =
       rw (same d k (e .keeps z))
-      (ap total (sym (lowest-later fit (not (sound d)) (securityTotalConditions (ask (rowsOf d)) p s) (sym (e .number) ∙ z))))
+      (ap total (sym (first-later fit (not (sound d)) (securityTotalConditions (ask (rowsOf d)) p s) (sym (e .number) ∙ z))))
 
 pub cash-misfit : (c : List ℤ) → length c ≢ cashCount → NoCents 3 ≡ deskCashTotal c
 unfolding deskCashTotal

@@ -7,7 +7,7 @@ use mathlib.Core.List.{[]}
 use Rattle.rules.specs.declared.Answer.the-variants.{Accepted, Refused}
 use Rattle.rules.specs.declared.Directory.{Directory}
 use Rattle.rules.specs.declared.Entered.{Entered}
-use Rattle.rules.specs.Tests.{lowest}
+use Rattle.rules.specs.Tests.{firstOf}
 use Rattle.rules.specs.Directory.{rowsOf}
 use Rattle.rules.specs.Entries.{Row, rowConditions, addRow}
 use Rattle.rules.specs.Calls.{Store, Outcome, enter, outcome, misfit, core}
@@ -35,7 +35,7 @@ module _ (d : Directory) (x : Row) where
     unsound ne = sym (ap said (early-refused (enter x) handed n (admits .number) ne))
 
     module _ (z : n ≡ 0) (m : ℕ) (judged : m ≡ refusalIn k x) where
-      number : m ≡ lowest (rowConditions (rowsOf d) x)
+      number : m ≡ firstOf (rowConditions (rowsOf d) x)
       number = judged ∙ refusal-is k d x (admits .keeps z)
 
       passed : said (outcome m (enter x) handed) ≡ enteredOn d x

@@ -14,7 +14,7 @@ use Rattle.rules.specs.declared.Half.{Half}
 use Rattle.rules.specs.declared.Step.{Step}
 use Rattle.rules.specs.declared.Answer.{Answer}
 use Rattle.rules.specs.declared.Reply.{Reply}
-use Rattle.rules.specs.Tests.{lowest}
+use Rattle.rules.specs.Tests.{firstOf}
 use Rattle.rules.specs.Directory.{rowsOf}
 use Rattle.rules.specs.Lookups.{ask}
 use Rattle.rules.specs.Chain.{Chain, chained, unchained, stepsOf, stepLimit, step}
@@ -103,7 +103,7 @@ module _ (st : Store) (h g : Half) where
   pub core-few : (l : Lender) (lent : List Step) (r : Answer) → r ≡ core (lending l h g lent) st .answer → countOf r ≤ stepLimit
   unfolding core
   core-few l lent r e =
-      let n = lowest (coreConditions (lending l h g lent) st) in
+      let n = firstOf (coreConditions (lending l h g lent) st) in
       rw (e, steps-counted l n lent) (given-few n)
 
   -- nothing is 3, so the list has room
@@ -115,14 +115,14 @@ module _ (st : Store) (h g : Half) where
       let cash = not (eqb (length (st .cash)) cashCount) in
       ltb-not (length lent) stepLimit (or-none cash short (or-none (not (eqb (length (st .positions)) positionCount)) (cash || short) e .1) .1)
 
-  given-room : (l : Lender) (n : ℕ) (lent : List Step) → lowest (deskConditions (lending l h g lent) st) ≡ n → length (givenSteps n) ≤ length lent
+  given-room : (l : Lender) (n : ℕ) (lent : List Step) → firstOf (deskConditions (lending l h g lent) st) ≡ n → length (givenSteps n) ≤ length lent
   given-room l zero lent e = within found-few (fits l lent (first-clear _ _ e))
   given-room l (suc n) lent e = omega arith
 
   -- ---- two lists of one length
 
   same-number : (l : Lender) (xs ys : List Step) → length xs ≡ length ys
-      → lowest (deskConditions (lending l h g xs) st) ≡ lowest (deskConditions (lending l h g ys) st)
+      → firstOf (deskConditions (lending l h g xs) st) ≡ firstOf (deskConditions (lending l h g ys) st)
   unfolding misfit
   same-number derives xs ys e = rw e
   same-number settles xs ys e = rw e
@@ -131,7 +131,7 @@ module _ (st : Store) (h g : Half) where
       → Serves (desk (lending l h g lent) st) lent r
   unfolding desk
   serves l ys lent e r says =
-      let n = lowest (deskConditions (lending l h g ys) st) in
+      let n = firstOf (deskConditions (lending l h g ys) st) in
       let same = same-number l ys lent e in
       let value : r .steps ≡ byValue (givenSteps n) = ap (λ (x : Reply). x .steps) says ∙ steps-replied l n ys in
       let rows : stepRows (r .steps) ≡ givenSteps n = rw value (take-append-seam (givenSteps n) (drop (length (givenSteps n)) (blanks stepLimit))) in
@@ -145,7 +145,7 @@ module _ (st : Store) (h g : Half) where
   left-alike : (l : Lender) (ys lent : List Step) → length ys ≡ length lent → desk (lending l h g ys) st .store ≡ desk (lending l h g lent) st .store
   unfolding desk
   left-alike l ys lent e =
-      same-store l (lowest (deskConditions (lending l h g ys) st)) ys lent ∙ ap (λ (m : ℕ). outcome m (lending l h g lent) st .store) (same-number l ys lent e)
+      same-store l (firstOf (deskConditions (lending l h g ys) st)) ys lent ∙ ap (λ (m : ℕ). outcome m (lending l h g lent) st .store) (same-number l ys lent e)
 
 as-long : (lent : List Step) → length (blanks (length lent)) ≡ length lent
 as-long lent = length-replicate (length lent) (step 0 0 0)

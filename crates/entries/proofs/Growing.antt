@@ -5,7 +5,7 @@ use mathlib.Core.Bool.{false}
 use mathlib.Core.List.{List}
 use lib.ListN.{length}
 use Rattle.rules.specs.declared.Directory.{Directory}
-use Rattle.rules.specs.Tests.{isFull, lowest}
+use Rattle.rules.specs.Tests.{isFull, firstOf}
 use Rattle.rules.specs.Directory.{Rows, rowsOf}
 use Rattle.rules.specs.Entries.{Row, rowConditions, addRow, Sized}
 use Rattle.rules.specs.Demands.{withRow}
@@ -38,7 +38,7 @@ module _ (k : Kept) (d : Directory) (h : Keeps k d) where
   pub number-is : (p : Place) → Inside p → numberAt (k .numbers) (placeOf p) ≡ indexOf (rowsOf d) p
   number-is p i = number-at (k .numbers) p i ∙ h .indexed .at p i
 
-  pub grown : (x : Row) → lowest (rowConditions (rowsOf d) x) ≡ 0
+  pub grown : (x : Row) → firstOf (rowConditions (rowsOf d) x) ≡ 0
       → {count : Place} {ss : List Store} → Change (indexOf (rowsOf d)) (indexOf (withRow x (rowsOf d))) count ss
       → (b : List ℕ) → Named b (withRow x (rowsOf d)) → Keeps (record { numbers = counted count (stored ss (k .numbers)); names = b }) (addRow x d)
   grown x ok c b named =

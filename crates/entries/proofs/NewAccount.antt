@@ -6,7 +6,7 @@ use native.Mathlib.Omega.{arith}
 use lib.ListN.{length}
 use Rattle.rules.specs.declared.Account.{Account}
 use Rattle.rules.specs.declared.Directory.{Directory}
-use Rattle.rules.specs.Tests.{lowest}
+use Rattle.rules.specs.Tests.{firstOf}
 use Rattle.rules.specs.Directory.{Rows, rowsOf, accountLimit}
 use Rattle.rules.specs.Entries.{accountRow, rowConditions, addRow}
 use Rattle.rules.specs.Demands.{withRow}
@@ -50,7 +50,7 @@ module _ (r : Rows) (x : Account) (few : length (r .accounts) < accountLimit) wh
             (same-links r r′ accountCount ss refl);
       }
 
-pub account-added : (k : Kept) (d : Directory) (x : Account) → Keeps k d → lowest (rowConditions (rowsOf d) (accountRow x)) ≡ 0
+pub account-added : (k : Kept) (d : Directory) (x : Account) → Keeps k d → firstOf (rowConditions (rowsOf d) (accountRow x)) ≡ 0
     → Keeps (withRowIn (accountRow x) k) (addRow (accountRow x) d)
 unfolding withAccount
 account-added k d x h ok =

@@ -7,7 +7,7 @@ use lib.ListN.{length, take, length-take}
 use lib.Seq.{getD-take}
 use Rattle.rules.specs.declared.Csd.{Csd}
 use Rattle.rules.specs.declared.Directory.{Directory}
-use Rattle.rules.specs.Tests.{lowest}
+use Rattle.rules.specs.Tests.{firstOf}
 use Rattle.rules.specs.Directory.{Rows, rowsOf, csdLimit}
 use Rattle.rules.specs.Entries.{csdRow, rowConditions, addRow}
 use Rattle.rules.specs.Demands.{withRow}
@@ -64,7 +64,7 @@ module _ (r : Rows) (x : Csd) (few : length (r .csds) < csdLimit) where
         isins = λ s j u v. bytes-other bic b (bicSize * n) (isins + isinSize * s + j) (λ f g. omega (arith, few, short)) ∙ h .isins s j u v;
       }
 
-pub csd-added : (k : Kept) (d : Directory) (x : Csd) → Keeps k d → lowest (rowConditions (rowsOf d) (csdRow x)) ≡ 0 → Keeps (withRowIn (csdRow x) k) (addRow (csdRow x) d)
+pub csd-added : (k : Kept) (d : Directory) (x : Csd) → Keeps k d → firstOf (rowConditions (rowsOf d) (csdRow x)) ≡ 0 → Keeps (withRowIn (csdRow x) k) (addRow (csdRow x) d)
 unfolding withCsd
 csd-added k d x h ok =
     let r : Rows = rowsOf d in

@@ -9,7 +9,7 @@ use native.Mathlib.Omega.{arith}
 use lib.Dec.{eqb}
 use Rattle.rules.specs.declared.Link.{Link}
 use Rattle.rules.specs.declared.Directory.{Directory}
-use Rattle.rules.specs.Tests.{lowest}
+use Rattle.rules.specs.Tests.{firstOf}
 use Rattle.rules.specs.Directory.{Rows, rowsOf, csdLimit, securityLimit, linkLimit, isLink, isIssuer, isInvestor, isDefault, isLinkTo, hasLink, hasIssuer, hasInvestor, hasLinkTo, issuerLink, defaultLink}
 use Rattle.rules.specs.Entries.{linkRow, rowConditions, addRow, linkRefusal}
 use Rattle.rules.specs.Lookups.{issuance}
@@ -183,7 +183,7 @@ module _ (r : Rows) (x : Link) where
             link = λ s c t i o a. link-kept s c t (other-link s c t (a .0));
           })
 
-pub link-added : (k : Kept) (d : Directory) (x : Link) → Keeps k d → lowest (rowConditions (rowsOf d) (linkRow x)) ≡ 0 → Keeps (withRowIn (linkRow x) k) (addRow (linkRow x) d)
+pub link-added : (k : Kept) (d : Directory) (x : Link) → Keeps k d → firstOf (rowConditions (rowsOf d) (linkRow x)) ≡ 0 → Keeps (withRowIn (linkRow x) k) (addRow (linkRow x) d)
 unfolding withLink withIssuer withInvestor linkRefusal
 link-added k d x h ok =
     let r : Rows = rowsOf d in

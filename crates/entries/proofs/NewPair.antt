@@ -10,7 +10,7 @@ use lib.Dec.{eqb}
 use borrow.Author.Tests.{lt-ltb}
 use Rattle.rules.specs.declared.Pair.{Pair}
 use Rattle.rules.specs.declared.Directory.{Directory}
-use Rattle.rules.specs.Tests.{lowest}
+use Rattle.rules.specs.Tests.{firstOf}
 use Rattle.rules.specs.Directory.{Rows, rowsOf, csdLimit, accountLimit, pairLimit, noAccount, external, joins, uses, pairOf, isJoined, isPaired}
 use Rattle.rules.specs.Entries.{pairRow, rowConditions, addRow, pairRefusal}
 use Rattle.rules.specs.Demands.{withRow}
@@ -134,7 +134,7 @@ module _ (r : Rows) (x : Pair) (F : Facts r) (N : NewPair r (r .pairs) x) where
         kept = λ q i o a. kept q i o ((λ f. let outside : Inside (pairedAt (x .omnibus)) = rw f at i in omega (arith, e)), a);
       }
 
-pub pair-added : (k : Kept) (d : Directory) (x : Pair) → Keeps k d → lowest (rowConditions (rowsOf d) (pairRow x)) ≡ 0 → Keeps (withRowIn (pairRow x) k) (addRow (pairRow x) d)
+pub pair-added : (k : Kept) (d : Directory) (x : Pair) → Keeps k d → firstOf (rowConditions (rowsOf d) (pairRow x)) ≡ 0 → Keeps (withRowIn (pairRow x) k) (addRow (pairRow x) d)
 unfolding withPair withPaired pairRefusal
 pair-added k d x h ok =
     let r : Rows = rowsOf d in

@@ -7,7 +7,7 @@ use lib.ListN.{length, take, length-take}
 use lib.Seq.{getD-take}
 use Rattle.rules.specs.declared.Security.{Security}
 use Rattle.rules.specs.declared.Directory.{Directory}
-use Rattle.rules.specs.Tests.{lowest}
+use Rattle.rules.specs.Tests.{firstOf}
 use Rattle.rules.specs.Directory.{Rows, rowsOf, securityLimit}
 use Rattle.rules.specs.Entries.{securityRow, rowConditions, addRow}
 use Rattle.rules.specs.Demands.{withRow}
@@ -54,7 +54,7 @@ module _ (r : Rows) (x : Security) (few : length (r .securities) < securityLimit
             (λ j g. getD-take isinSize (x .isin) j 0 g);
       }
 
-pub security-added : (k : Kept) (d : Directory) (x : Security) → Keeps k d → lowest (rowConditions (rowsOf d) (securityRow x)) ≡ 0
+pub security-added : (k : Kept) (d : Directory) (x : Security) → Keeps k d → firstOf (rowConditions (rowsOf d) (securityRow x)) ≡ 0
     → Keeps (withRowIn (securityRow x) k) (addRow (securityRow x) d)
 unfolding withSecurity
 security-added k d x h ok =

@@ -1,7 +1,7 @@
 -- What refuses a row by what is kept of a directory is what refuses it by the directory's rows.
 use mathlib.Core.Path.{_≡_, ap}
 use Rattle.rules.specs.declared.Directory.{Directory}
-use Rattle.rules.specs.Tests.{isFull, lowest}
+use Rattle.rules.specs.Tests.{isFull, firstOf}
 use Rattle.rules.specs.Directory.{rowsOf}
 use Rattle.rules.specs.Entries.{Row, csdRow, securityRow, accountRow, pairRow, linkRow, rowConditions, accountConditions, pairConditions, linkConditions}
 use Rattle.index.specs.Index.{csdCount, securityCount}
@@ -9,10 +9,10 @@ use Rattle.index.proofs.Answers.{reads, answers}
 use Rattle.entries.specs.Entered.{Kept, Keeps, csdRefusalIn, securityRefusalIn, accountRefusalIn, pairRefusalIn, linkRefusalIn, refusalIn}
 use Rattle.entries.proofs.Identified.{bics-found, isins-found}
 
-pub refusal-is : (k : Kept) (d : Directory) (x : Row) → Keeps k d → refusalIn k x ≡ lowest (rowConditions (rowsOf d) x)
+pub refusal-is : (k : Kept) (d : Directory) (x : Row) → Keeps k d → refusalIn k x ≡ firstOf (rowConditions (rowsOf d) x)
 unfolding csdRefusalIn securityRefusalIn accountRefusalIn pairRefusalIn linkRefusalIn isFull
 refusal-is k d (csdRow x) h = rw (reads (h .indexed) csdCount, bics-found k d h (x .bic))
 refusal-is k d (securityRow x) h = rw (reads (h .indexed) securityCount, isins-found k d h (x .isin))
-refusal-is k d (accountRow x) h = ap (λ q. lowest (accountConditions q x)) (answers (k .numbers) d (h .indexed))
-refusal-is k d (pairRow x) h = ap (λ q. lowest (pairConditions q x)) (answers (k .numbers) d (h .indexed))
-refusal-is k d (linkRow x) h = ap (λ q. lowest (linkConditions q x)) (answers (k .numbers) d (h .indexed))
+refusal-is k d (accountRow x) h = ap (λ q. firstOf (accountConditions q x)) (answers (k .numbers) d (h .indexed))
+refusal-is k d (pairRow x) h = ap (λ q. firstOf (pairConditions q x)) (answers (k .numbers) d (h .indexed))
+refusal-is k d (linkRow x) h = ap (λ q. firstOf (linkConditions q x)) (answers (k .numbers) d (h .indexed))

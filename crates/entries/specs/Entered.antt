@@ -14,7 +14,7 @@ use Rattle.rules.specs.declared.Directory.{Directory}
 use Rattle.rules.specs.declared.Answer.{Answer}
 use Rattle.rules.specs.declared.Answer.the-variants.{Accepted, Refused}
 use Rattle.rules.specs.declared.Entered.{Entered}
-use Rattle.rules.specs.Tests.{lowest}
+use Rattle.rules.specs.Tests.{firstOf}
 use Rattle.rules.specs.Directory.{rowsOf, csdLimit, securityLimit, noAccount}
 use Rattle.rules.specs.Entries.{Row, csdRow, securityRow, accountRow, pairRow, linkRow, csdConditions, securityConditions, accountConditions, pairConditions, linkConditions, rowConditions, addRow}
 use Rattle.index.specs.Index.{Indexed, Place, csdCount, securityCount, accountCount, pairCount, linkCount, placeOf, types, homes, kinds, paired, mirrors, omnibuses, routes, issuances, linked, issuerCode, numberAt, withNumber}
@@ -35,23 +35,23 @@ pub record Keeps (k : Kept) (d : Directory) : Type 0 where
 
 -- of a CSD, by the numbers l and the bytes b
 unfoldable pub csdRefusalIn : List ℕ → List ℕ → Csd → ℕ
-csdRefusalIn l b x = lowest (csdConditions (leb csdLimit (read l csdCount)) (bicIn l b) x)
+csdRefusalIn l b x = firstOf (csdConditions (leb csdLimit (read l csdCount)) (bicIn l b) x)
 
 -- of a security
 unfoldable pub securityRefusalIn : List ℕ → List ℕ → Security → ℕ
-securityRefusalIn l b x = lowest (securityConditions (leb securityLimit (read l securityCount)) (isinIn l b) x)
+securityRefusalIn l b x = firstOf (securityConditions (leb securityLimit (read l securityCount)) (isinIn l b) x)
 
 -- of an account
 unfoldable pub accountRefusalIn : List ℕ → Account → ℕ
-accountRefusalIn l x = lowest (accountConditions (asked l) x)
+accountRefusalIn l x = firstOf (accountConditions (asked l) x)
 
 -- of a pair
 unfoldable pub pairRefusalIn : List ℕ → Pair → ℕ
-pairRefusalIn l x = lowest (pairConditions (asked l) x)
+pairRefusalIn l x = firstOf (pairConditions (asked l) x)
 
 -- of a link
 unfoldable pub linkRefusalIn : List ℕ → Link → ℕ
-linkRefusalIn l x = lowest (linkConditions (asked l) x)
+linkRefusalIn l x = firstOf (linkConditions (asked l) x)
 
 -- of any row
 abbrev pub refusalIn : Kept → Row → ℕ
@@ -167,4 +167,4 @@ enteredBy (suc n) x d = record { answer = Refused (suc n); directory = d }
 
 -- an entry into a directory, sound or not: its answer, and the directory after it
 unfoldable pub enterRow : Row → Directory → Entered
-enterRow x d = enteredBy (lowest (rowConditions (rowsOf d) x)) x d
+enterRow x d = enteredBy (firstOf (rowConditions (rowsOf d) x)) x d

@@ -1,4 +1,4 @@
-// Whether a row may be entered after the rows before it: the refusals 5 to 11 of document 01, the lowest that applies, 0 for none.
+// Whether a row may be entered after the rows before it: the refusals 5 to 11 of document 01, the first that applies, 0 for none.
 use crate::identifiers::is_bic;
 use crate::identifiers::is_isin;
 use crate::identifiers::isin_checks;

@@ -22,7 +22,7 @@ use Rattle.rules.specs.declared.SecurityTotal.{SecurityTotal}
 use Rattle.rules.specs.declared.SecurityTotal.the-variants.{SumUnits, NoUnits}
 use Rattle.rules.specs.declared.CashTotal.{CashTotal}
 use Rattle.rules.specs.declared.CashTotal.the-variants.{SumCents, NoCents}
-use Rattle.rules.specs.Tests.{lowest}
+use Rattle.rules.specs.Tests.{firstOf}
 use Rattle.rules.specs.Chain.{step}
 use Rattle.rules.specs.Calls.{Outcome, desk, isAccepted, lentSteps, deskSecurityTotal, deskCashTotal}
 use Rattle.rules.specs.Stream.{callOf, halfAt}
@@ -80,7 +80,7 @@ module _ (counts rows : List ℕ) where
 
     -- ---- 1 and 2
 
-    module _ (tag : ℕ) (o : List ℕ) (n : ℕ) (m : n ≡ lowest (readConditions (isEntry tag) tag o)) where
+    module _ (tag : ℕ) (o : List ℕ) (n : ℕ) (m : n ≡ firstOf (readConditions (isEntry tag) tag o)) where
       enters-unread : n ≢ 0 → enters counts rows tag o ≡ record { answer = Refused n; store = holding (directoryIn counts rows) [] []; steps = lentSteps (callIn tag o) }
       unfolding enters
       enters-unread ne = read-refused (isEntry tag) tag o n m (callIn tag o) (holding (directoryIn counts rows) [] []) ne
@@ -91,7 +91,7 @@ module _ (counts rows : List ℕ) where
           let x = enters-unread ne in
           rw (f, x) (q, refl, refl)
 
-    module _ (p c : List ℤ) (tag : ℕ) (o : List ℕ) (n : ℕ) (m : n ≡ lowest (readConditions (isMove tag) tag o)) where
+    module _ (p c : List ℤ) (tag : ℕ) (o : List ℕ) (n : ℕ) (m : n ≡ firstOf (readConditions (isMove tag) tag o)) where
       moves-unread : n ≢ 0
           → moves counts rows p c tag o ≡ record { answer = Refused n; store = holding (directoryIn counts rows) p c; steps = lentSteps (callIn tag o) }
       unfolding moves
@@ -131,7 +131,7 @@ module _ (counts rows : List ℕ) where
     module _ (d : Directory) (e : d ≡ directoryIn counts rows) where
       -- ---- an entry
 
-      module _ (tag : ℕ) (o : List ℕ) (n : ℕ) (m : n ≡ lowest (readConditions (isEntry tag) tag o)) (z : n ≡ 0) (part : List ℕ) (p : part ≡ take (width tag) o) (r : Entered)
+      module _ (tag : ℕ) (o : List ℕ) (n : ℕ) (m : n ≡ firstOf (readConditions (isEntry tag) tag o)) (z : n ≡ 0) (part : List ℕ) (p : part ≡ take (width tag) o) (r : Entered)
           (s : r ≡ enteredBy (desk (callOf tag part) (holding d [] []))) where
         entered-is : r ≡ enteredBy (enters counts rows tag o)
         unfolding enters
@@ -162,7 +162,7 @@ module _ (counts rows : List ℕ) where
 
       -- ---- a move or payment
 
-      module _ (positions cash : List ℤ) (tag : ℕ) (o : List ℕ) (n : ℕ) (m : n ≡ lowest (readConditions (isMove tag) tag o)) where
+      module _ (positions cash : List ℤ) (tag : ℕ) (o : List ℕ) (n : ℕ) (m : n ≡ firstOf (readConditions (isMove tag) tag o)) where
         moves-is : n ≡ 0 → (part : List ℕ) → part ≡ take (width tag) o → desk (callOf tag part) (holding d positions cash) ≡ moves counts rows positions cash tag o
         unfolding moves
         moves-is z part p = rw (e, p) (sym (read-passed (isMove tag) tag o n m (callIn tag o) (holding (directoryIn counts rows) positions cash) z))

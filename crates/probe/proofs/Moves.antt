@@ -7,7 +7,7 @@ use lib.IntN.{ℤ}
 use Rattle.rules.specs.declared.Directory.{Directory}
 use Rattle.rules.specs.declared.Answer.{Answer}
 use Rattle.rules.specs.declared.Entered.{Entered}
-use Rattle.rules.specs.Tests.{lowest}
+use Rattle.rules.specs.Tests.{firstOf}
 use Rattle.rules.specs.Entries.{Row}
 use Rattle.rules.specs.Booking.{Way}
 use Rattle.rules.specs.Calls.{Store, Call, enter, move, pay, outcome, misfit, deskConditions, desk}
@@ -38,11 +38,11 @@ module _ (d : Directory) (p c : List ℤ) where
 
   moved-like : (w : Way) (a s q : ℕ) → Leaves (move w a s q) (holding d p c) (movementOn d p w a s q .answer) (movementOn d p w a s q .store .positions) c
   unfolding desk misfit
-  moved-like w a s q = moved-by (lowest (deskConditions (move w a s q) (holding d p c))) w a s q
+  moved-like w a s q = moved-by (firstOf (deskConditions (move w a s q) (holding d p c))) w a s q
 
   paid-like : (w : Way) (a m : ℕ) → Leaves (pay w a m) (holding d p c) (paymentOn d c w a m .answer) p (paymentOn d c w a m .store .cash)
   unfolding desk misfit
-  paid-like w a m = paid-by (lowest (deskConditions (pay w a m) (holding d p c))) w a m
+  paid-like w a m = paid-by (firstOf (deskConditions (pay w a m) (holding d p c))) w a m
 
   module _ (k : Call) (r : Answer) (l : List ℤ) where
     pub moved : (w : Way) (a s q : ℕ) → move w a s q ≡ k → (r ≡ movementOn d p w a s q .answer) × (l ≡ movementOn d p w a s q .store .positions) → Leaves k (holding d p c) r l c

@@ -12,7 +12,7 @@ use lib.ListN.{length, take}
 use lib.Seq.{length-take-le}
 use borrow.Author.Tests.{lt-ltb, le-ltb}
 use Rattle.rules.specs.declared.Answer.the-variants.{Refused}
-use Rattle.rules.specs.Tests.{Condition, _when_, lowest}
+use Rattle.rules.specs.Tests.{Condition, _when_, firstOf}
 use Rattle.rules.specs.Calls.{Store, Call, outcome, lentSteps, deskConditions, desk}
 use Rattle.rules.specs.Stream.{widthOf}
 use Rattle.rules.proofs.Basics.{and-both, leb-is, ltb-not}
@@ -24,23 +24,23 @@ use Rattle.probe.specs.Exports.{isEntry, isMove, asked, width, readCondi
 -- ---- the two numbers
 
 module _ (b s : Bool) (cs : List Condition) where
-  lowest-early : lowest (1 when b ∷ 2 when s ∷ []) ≢ 0 → lowest (1 when b ∷ 2 when s ∷ cs) ≡ lowest (1 when b ∷ 2 when s ∷ [])
-  lowest-early ne = go b s ne
+  first-early : firstOf (1 when b ∷ 2 when s ∷ []) ≢ 0 → firstOf (1 when b ∷ 2 when s ∷ cs) ≡ firstOf (1 when b ∷ 2 when s ∷ [])
+  first-early ne = go b s ne
     where
-      go : (b s : Bool) → lowest (1 when b ∷ 2 when s ∷ []) ≢ 0 → lowest (1 when b ∷ 2 when s ∷ cs) ≡ lowest (1 when b ∷ 2 when s ∷ [])
+      go : (b s : Bool) → firstOf (1 when b ∷ 2 when s ∷ []) ≢ 0 → firstOf (1 when b ∷ 2 when s ∷ cs) ≡ firstOf (1 when b ∷ 2 when s ∷ [])
       go true s ne = refl
       go false true ne = refl
       go false false ne = absurd (ne refl)
 
-  lowest-later : lowest (1 when b ∷ 2 when s ∷ []) ≡ 0 → lowest (1 when b ∷ 2 when s ∷ cs) ≡ lowest cs
-  lowest-later e = go b s e
+  first-later : firstOf (1 when b ∷ 2 when s ∷ []) ≡ 0 → firstOf (1 when b ∷ 2 when s ∷ cs) ≡ firstOf cs
+  first-later e = go b s e
     where
-      go : (b s : Bool) → lowest (1 when b ∷ 2 when s ∷ []) ≡ 0 → lowest (1 when b ∷ 2 when s ∷ cs) ≡ lowest cs
+      go : (b s : Bool) → firstOf (1 when b ∷ 2 when s ∷ []) ≡ 0 → firstOf (1 when b ∷ 2 when s ∷ cs) ≡ firstOf cs
       go true s e = let z : ⊥ = omega arith in absurd z
       go false true e = let z : ⊥ = omega arith in absurd z
       go false false e = refl
 
-clear : (known s : Bool) → lowest (1 when not known ∷ 2 when s ∷ []) ≡ 0 → (known ≡ true) × (s ≡ false)
+clear : (known s : Bool) → firstOf (1 when not known ∷ 2 when s ∷ []) ≡ 0 → (known ≡ true) × (s ≡ false)
 clear false s e = let z : ⊥ = omega arith in absurd z
 clear true true e = let z : ⊥ = omega arith in absurd z
 clear true false e = (refl, refl)
@@ -50,16 +50,16 @@ refused-by k st zero ne = absurd (ne refl)
 refused-by k st (suc n) ne = refl
 
 module _ (known : Bool) (tag : ℕ) (o : List ℕ) where
-  pub unknown-is : known ≡ false → 1 ≡ lowest (readConditions known tag o)
+  pub unknown-is : known ≡ false → 1 ≡ firstOf (readConditions known tag o)
   unknown-is e = rw e
 
-  pub cut-is : known ≡ true → length o < width tag → 2 ≡ lowest (readConditions known tag o)
+  pub cut-is : known ≡ true → length o < width tag → 2 ≡ firstOf (readConditions known tag o)
   cut-is e h = rw (e, lt-ltb (length o) (width tag) h)
 
-  pub none-is : known ≡ true → width tag ≤ length o → 0 ≡ lowest (readConditions known tag o)
+  pub none-is : known ≡ true → width tag ≤ length o → 0 ≡ firstOf (readConditions known tag o)
   none-is e h = rw (e, le-ltb (length o) (width tag) h)
 
-  module _ (n : ℕ) (e : n ≡ lowest (readConditions known tag o)) where
+  module _ (n : ℕ) (e : n ≡ firstOf (readConditions known tag o)) where
     pub known-is : n ≡ 0 → known ≡ true
     known-is z = clear known (ltb (length o) (width tag)) (sym e ∙ z) .0
 
@@ -70,11 +70,11 @@ module _ (known : Bool) (tag : ℕ) (o : List ℕ) where
       pub read-refused : n ≢ 0 → obeyed known tag o k st ≡ record { answer = Refused n; store = st; steps = lentSteps k }
       unfolding obeyed
       read-refused ne =
-          ap (λ (m : ℕ). outcome m k st) (lowest-early (not known) (ltb (length o) (width tag)) (deskConditions k st) (λ z. ne (e ∙ z)) ∙ sym e) ∙ refused-by k st n ne
+          ap (λ (m : ℕ). outcome m k st) (first-early (not known) (ltb (length o) (width tag)) (deskConditions k st) (λ z. ne (e ∙ z)) ∙ sym e) ∙ refused-by k st n ne
 
       pub read-passed : n ≡ 0 → obeyed known tag o k st ≡ desk k st
       unfolding obeyed desk
-      read-passed z = ap (λ (m : ℕ). outcome m k st) (lowest-later (not known) (ltb (length o) (width tag)) (deskConditions k st) (sym e ∙ z))
+      read-passed z = ap (λ (m : ℕ). outcome m k st) (first-later (not known) (ltb (length o) (width tag)) (deskConditions k st) (sym e ∙ z))
 
 -- ---- widths
 

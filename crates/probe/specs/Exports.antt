@@ -13,7 +13,7 @@ use Rattle.rules.specs.declared.SecurityTotal.{SecurityTotal}
 use Rattle.rules.specs.declared.SecurityTotal.the-variants.{SumUnits, NoUnits}
 use Rattle.rules.specs.declared.CashTotal.{CashTotal}
 use Rattle.rules.specs.declared.CashTotal.the-variants.{SumCents, NoCents}
-use Rattle.rules.specs.Tests.{Condition, _when_, lowest}
+use Rattle.rules.specs.Tests.{Condition, _when_, firstOf}
 use Rattle.rules.specs.Calls.{Store, Call, enter, move, pay, settle, derive, Outcome, outcome, deskConditions, isAccepted, countOf}
 use Rattle.rules.specs.Calls.{deskSecurityTotal, deskCashTotal}
 use Rattle.rules.specs.Stream.{widthOf, callOf}
@@ -72,7 +72,7 @@ readConditions known tag o = 1 when not known ∷ 2 when ltb (length o) (width t
 
 -- 1 and 2, then the call's own 3 to 22
 unfoldable pub obeyed : Bool → ℕ → List ℕ → Call → Store → Outcome
-obeyed known tag o k st = outcome (lowest (readConditions known tag o ++ deskConditions k st)) k st
+obeyed known tag o k st = outcome (firstOf (readConditions known tag o ++ deskConditions k st)) k st
 
 -- an entry's outcome: its answer, and the directory after it
 abbrev pub enteredBy : Outcome → Entered

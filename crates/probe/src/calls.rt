@@ -23,7 +23,7 @@ ghost use mathlib.Core.List.{[]};
 ghost use mathlib.Core.Option.{some};
 ghost use lib.ListN.{length};
 ghost use Prim.Native.Nat.{_+_, _<_};
-ghost use Rattle.rules.specs.Tests.{lowest};
+ghost use Rattle.rules.specs.Tests.{firstOf};
 ghost use Rattle.rules.specs.Calls.{desk, isAccepted};
 ghost use Rattle.rules.specs.Stream.{widthOf, callOf, transcript, Printed};
 ghost use Rattle.rules.specs.Outcomes.{holding};
@@ -93,7 +93,7 @@ fn width(tag: u8) -> usize
 
 // 1 for a byte that the export does not know, 2 for operands that are cut short, else 0.
 fn read_refusal(known: bool, tag: u8, bytes: &[u8]) -> u8
-    ensures { λ r. ⌜ r ≡ lowest (readConditions known tag (now (bytes .entry))) ⌝ }
+    ensures { λ r. ⌜ r ≡ firstOf (readConditions known tag (now (bytes .entry))) ⌝ }
 {
     if !known {
         return 1;

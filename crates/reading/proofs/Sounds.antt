@@ -11,7 +11,7 @@ use Rattle.rules.specs.declared.Account.{Account}
 use Rattle.rules.specs.declared.Pair.{Pair}
 use Rattle.rules.specs.declared.Link.{Link}
 use Rattle.rules.specs.declared.Directory.{Directory}
-use Rattle.rules.specs.Tests.{eachAfter, lowest}
+use Rattle.rules.specs.Tests.{eachAfter, firstOf}
 use Rattle.rules.specs.Directory.{Rows, rowsOf}
 use Rattle.rules.specs.Entries.{Row, csdRow, securityRow, accountRow, pairRow, linkRow, rowConditions, addRow, emptyDirectory, Sized}
 use Rattle.rules.specs.Entries.{csdRefusal, securityRefusal, accountRefusal, pairRefusal, linkRefusal}
@@ -30,7 +30,7 @@ use Rattle.reading.proofs.Loops.{ended}
 -- ---- rows after rows by the rules: whether each is accepted after those before it, and all of them together
 abbrev accepts : Rows → List Row → Bool
 accepts r [] = true
-accepts r (x ∷ xs) = eqb (lowest (rowConditions r x)) 0 && accepts (withRow x r) xs
+accepts r (x ∷ xs) = eqb (firstOf (rowConditions r x)) 0 && accepts (withRow x r) xs
 
 abbrev withRows : Rows → List Row → Rows
 withRows r [] = r
@@ -44,7 +44,7 @@ module _ {A : Type 0} (put : A → Row) (among : List A → Rows) (more : (b : L
   table-rows b (x ∷ l) = ap (λ q. withRows q (map put l ++ xs)) (more b x) ∙ (table-rows (b ++ (x ∷ [])) l ∙ rw append-assoc)
 
   table-accepts : (b l : List A)
-      → accepts (among b) (map put l ++ xs) ≡ (eachAfter (λ before x. eqb (lowest (rowConditions (among before) (put x))) 0) b l && accepts (among (b ++ l)) xs)
+      → accepts (among b) (map put l ++ xs) ≡ (eachAfter (λ before x. eqb (firstOf (rowConditions (among before) (put x))) 0) b l && accepts (among (b ++ l)) xs)
   table-accepts b [] = rw append-nil
   table-accepts b (x ∷ l) = rw (more b x, table-accepts (b ++ (x ∷ [])) l, append-assoc, and-assoc)
 
@@ -96,15 +96,15 @@ pub record Holds (k : Kept) (r : Rows) : Type 0 where
   pub rows : rowsOf directory ≡ r
 
 module _ (k : Kept) (r : Rows) (h : Holds k r) (x : Row) where
-  judged : refusalIn k x ≡ lowest (rowConditions r x)
-  judged = refusal-is k (h .directory) x (h .keeps) ∙ ap (λ q. lowest (rowConditions q x)) (h .rows)
+  judged : refusalIn k x ≡ firstOf (rowConditions r x)
+  judged = refusal-is k (h .directory) x (h .keeps) ∙ ap (λ q. firstOf (rowConditions q x)) (h .rows)
 
   one-more : refusalIn k x ≡ 0 → Holds (withRowIn x k) (withRow x r)
   one-more e =
       let d = h .directory in
       let w = h .keeps .indexed .whole in
       let z : Sized d = record { csds = w .csds; securities = w .securities; accounts = w .accounts; pairs = w .pairs; links = w .links } in
-      let ok : lowest (rowConditions (rowsOf d) x) ≡ 0 = sym (refusal-is k d x (h .keeps)) ∙ e in
+      let ok : firstOf (rowConditions (rowsOf d) x) ≡ 0 = sym (refusal-is k d x (h .keeps)) ∙ e in
       record { directory = addRow x d; keeps = keeps-grown k d x (h .keeps) ok; rows = added-rows x d z ok ∙ ap (withRow x) (h .rows) }
 
 -- the rows xs read into what holds r
@@ -119,10 +119,10 @@ told (x ∷ xs) k r h = go (refusalIn k x) refl (λ e. told xs (withRowIn x k) (
   where
     go : (n : ℕ) → refusalIn k x ≡ n → (refusalIn k x ≡ 0 → Told xs (withRowIn x k) (withRow x r)) → Told (x ∷ xs) k r
     go zero e t =
-        let j : lowest (rowConditions r x) ≡ 0 = sym (judged k r h x) ∙ e in
+        let j : firstOf (rowConditions r x) ≡ 0 = sym (judged k r h x) ∙ e in
         record { accepted = rw (e, j) (t e .accepted); holds = λ a. rw e (t e .holds (rw j at a)) }
     go (suc n) e t =
-        let j : eqb (lowest (rowConditions r x)) 0 ≡ false = eqb-false _ 0 (λ q. let z : suc n ≡ 0 = sym e ∙ (judged k r h x ∙ q) in omega arith) in
+        let j : eqb (firstOf (rowConditions r x)) 0 ≡ false = eqb-false _ 0 (λ q. let z : suc n ≡ 0 = sym e ∙ (judged k r h x ∙ q) in omega arith) in
         record { accepted = rw (e, j); holds = λ a. absurd (true≢false (sym (rw j at a))) }
 
 none-held : Holds nothingKept noRows

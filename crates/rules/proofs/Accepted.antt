@@ -6,14 +6,15 @@ use mathlib.Core.Option.{Option, none, some}
 use Prim.Native.Nat.{ℕ, _<_}
 use lib.Dec.{eqb, ltb}
 use lib.ListN.{length}
-use Rattle.rules.specs.Types.{Half, Step}
-use Rattle.rules.specs.Tests.{isRow, _when_, lowest}
+use Rattle.rules.specs.Types.{Half, Halves, Step}
+use Rattle.rules.specs.Tests.{isRow, _when_, firstOf}
 use Rattle.rules.specs.Directory.{Rows, rowsOf, isKind}
 use Rattle.rules.specs.Entries.{sound}
 use Rattle.rules.specs.Lookups.{homeOf, ask}
-use Rattle.rules.specs.Chain.{chained, stepsOf, chainConditions, stepLimit, chain}
+use Rattle.rules.specs.Chain.{chained, stepsOf, chainConditions, stepLimit}
 use Rattle.rules.specs.Booking.{Way, positionCount, cashCount, contra, moveBy, moveChain, payShort, unitsShort, unitsBeyond}
-use Rattle.rules.specs.Calls.{Store, Call, move, pay, settle, misfit, coreConditions, deskConditions, halvesConditions, halvesChain, deriveConditions, bookConditions}
+use Rattle.rules.specs.Calls.{Store, Call, move, pay, settle, misfit, coreConditions, deskConditions, delivering, receiving, sideUnknown, sameSide, halvesConditions, halvesChain, deriveConditions, bookConditions}
+use Rattle.rules.specs.Refusals.{Delivers}
 use Rattle.rules.proofs.Basics.{impossible, unnot-false, or-none, eqb-is, Quiet, loud}
 use Rattle.rules.proofs.Several.{none-hold}
 use Rattle.rules.proofs.Facts.{Facts}
@@ -24,17 +25,18 @@ use Rattle.rules.proofs.Soundness.{sound-gives}
 use Rattle.rules.proofs.Chains.{chain-trail}
 use Rattle.rules.proofs.Conditions.{quiet-both, quiet-chained}
 use Rattle.rules.proofs.Refusals.{desk-quiet}
+use Rattle.rules.proofs.SideRelation.{quiet-delivers}
 use Rattle.rules.proofs.Agreement.{Agreed, named-security, quiet-agree}
 use Rattle.rules.proofs.Permissions.{Permitted, units-held, quiet-allowed}
 use Rattle.rules.proofs.Moves.{source, target, moveSteps, holder-plain, source-plain, target-plain, move-trail}
 
-pub books-sound : (c : Call) (st : Store) → lowest (deskConditions c st) ≡ 0 → sound (st .directory) ≡ true
+pub books-sound : (c : Call) (st : Store) → firstOf (deskConditions c st) ≡ 0 → sound (st .directory) ≡ true
 books-sound c st free = unnot-false (sound (st .directory)) (desk-quiet c st free .1 .0)
 
-pub facts-of : (c : Call) (st : Store) → lowest (deskConditions c st) ≡ 0 → Facts (rowsOf (st .directory))
+pub facts-of : (c : Call) (st : Store) → firstOf (deskConditions c st) ≡ 0 → Facts (rowsOf (st .directory))
 facts-of c st free = sound-gives (st .directory) (books-sound c st free)
 
-pub core-free : (c : Call) (st : Store) → lowest (deskConditions c st) ≡ 0 → lowest (coreConditions c st) ≡ 0
+pub core-free : (c : Call) (st : Store) → firstOf (deskConditions c st) ≡ 0 → firstOf (coreConditions c st) ≡ 0
 core-free c st free = loud (coreConditions c st) (desk-quiet c st free .1 .1)
 
 fitting : (n most : ℕ) → not (eqb n most) ≡ false → n ≡ most
@@ -61,7 +63,7 @@ move-chain r w a s xs e = go (contra (ask r) s (homeOf (r .accounts) a)) refl e
     go none f c = impossible (cc)
     go (some u) f c = (u, f, sym (ap stepsOf c))
 
-pub move-facts : (st : Store) (w : Way) (a s q : ℕ) → lowest (deskConditions (move w a s q) st) ≡ 0 → MoveFacts st w a s q
+pub move-facts : (st : Store) (w : Way) (a s q : ℕ) → firstOf (deskConditions (move w a s q) st) ≡ 0 → MoveFacts st w a s q
 unfolding misfit
 move-facts st w a s q free =
     record {
@@ -112,7 +114,7 @@ pub record PayFacts (st : Store) (w : Way) (a m : ℕ) : Type 0 where
   pub account : a < cashCount
   pub covered : payShort w (st .cash) a m ≡ false
 
-pub pay-facts : (st : Store) (w : Way) (a m : ℕ) → lowest (deskConditions (pay w a m) st) ≡ 0 → PayFacts st w a m
+pub pay-facts : (st : Store) (w : Way) (a m : ℕ) → firstOf (deskConditions (pay w a m) st) ≡ 0 → PayFacts st w a m
 unfolding misfit
 pay-facts st w a m free =
     let rows : Rows = rowsOf (st .directory) in
@@ -124,23 +126,25 @@ pay-facts st w a m free =
     }
 
 -- ---- a settlement
-pub record SettleFacts (st : Store) (h g : Half) (steps : List Step) : Type 0 where
+pub record SettleFacts (st : Store) (hs : Halves) (steps : List Step) : Type 0 where
   pub positions : length (st .positions) ≡ positionCount
   pub cash : length (st .cash) ≡ cashCount
-  pub agree : Agreed (rowsOf (st .directory)) h g
-  pub chain : chain (ask (rowsOf (st .directory))) (h .security) (h .account) (g .account) ≡ chained steps
-  pub allowed : Permitted st h g steps
-  pub transfer : Transfer (rowsOf (st .directory)) (st .positions) (h .account) steps (g .account) (h .security) (h .quantity)
-  pub payer : g .account < cashCount
-  pub payee : h .account < cashCount
+  pub sides : Delivers hs (delivering hs) (receiving hs)
+  pub agree : Agreed (rowsOf (st .directory)) (delivering hs) (receiving hs)
+  pub chain : halvesChain (ask (rowsOf (st .directory))) hs ≡ chained steps
+  pub allowed : Permitted st (delivering hs) (receiving hs) steps
+  pub transfer : Transfer (rowsOf (st .directory)) (st .positions) (delivering hs .account) steps (receiving hs .account) (delivering hs .security) (delivering hs .quantity)
+  pub payer : receiving hs .account < cashCount
+  pub payee : delivering hs .account < cashCount
 
-pub settle-facts : (st : Store) (h g : Half) (lent : List Step) → lowest (deskConditions (settle h g lent) st) ≡ 0
-    → SettleFacts st h g (stepsOf (halvesChain (ask (rowsOf (st .directory))) h g))
+pub settle-facts : (st : Store) (hs : Halves) (lent : List Step) → firstOf (deskConditions (settle hs lent) st) ≡ 0
+    → SettleFacts st hs (stepsOf (halvesChain (ask (rowsOf (st .directory))) hs))
 unfolding misfit
-settle-facts st h g lent free =
+settle-facts st hs lent free =
     record {
       positions = fitting (length (st .positions)) positionCount (lists .0);
       cash = fitting (length (st .cash)) cashCount (lists .1 .0);
+      sides = quiet-delivers (ask rows) hs (before .0);
       agree = agree;
       chain = is;
       allowed = allowed;
@@ -158,29 +162,35 @@ settle-facts st h g lent free =
     rows : Rows
     rows = rowsOf (st .directory)
 
-    steps : List Step
-    steps = stepsOf (halvesChain (ask rows) h g)
+    h : Half
+    h = delivering hs
 
-    all : Quiet (deskConditions (settle h g lent) st)
-    all = desk-quiet (settle h g lent) st free
+    g : Half
+    g = receiving hs
+
+    steps : List Step
+    steps = stepsOf (halvesChain (ask rows) hs)
+
+    all : Quiet (deskConditions (settle hs lent) st)
+    all = desk-quiet (settle hs lent) st free
 
     facts : Facts rows
-    facts = facts-of (settle h g lent) st free
+    facts = facts-of (settle hs lent) st free
 
     lists : (not (eqb (length (st .positions)) positionCount) ≡ false) × ((not (eqb (length (st .cash)) cashCount) ≡ false) × (ltb (length lent) stepLimit ≡ false))
     lists = none-hold (not (eqb (length (st .positions)) positionCount)) (not (eqb (length (st .cash)) cashCount) ∷ ltb (length lent) stepLimit ∷ []) (all .0)
 
-    parts : Quiet (deriveConditions (ask rows) h g) × Quiet (bookConditions (ask rows) (st .positions) (st .cash) h g steps)
-    parts = quiet-both (deriveConditions (ask rows) h g) (bookConditions (ask rows) (st .positions) (st .cash) h g steps) (all .1 .1)
+    parts : Quiet (deriveConditions (ask rows) hs) × Quiet (bookConditions (ask rows) (st .positions) (st .cash) h g steps)
+    parts = quiet-both (deriveConditions (ask rows) hs) (bookConditions (ask rows) (st .positions) (st .cash) h g steps) (all .1 .1)
 
-    before : Quiet (halvesConditions (ask rows) h g) × Quiet (chainConditions (halvesChain (ask rows) h g))
-    before = quiet-both (halvesConditions (ask rows) h g) (chainConditions (halvesChain (ask rows) h g)) (parts .0)
+    before : Quiet (halvesConditions (ask rows) hs) × Quiet (chainConditions (halvesChain (ask rows) hs))
+    before = quiet-both (halvesConditions (ask rows) hs) (chainConditions (halvesChain (ask rows) hs)) (parts .0)
 
     agree : Agreed rows h g
-    agree = quiet-agree rows h g (before .0)
+    agree = quiet-agree rows h g (sideUnknown hs) (sameSide hs) (before .0)
 
     allowed : Permitted st h g steps
     allowed = quiet-allowed st h g steps (parts .1)
 
-    is : chain (ask rows) (h .security) (h .account) (g .account) ≡ chained steps
-    is = quiet-chained (halvesChain (ask rows) h g) (before .1)
+    is : halvesChain (ask rows) hs ≡ chained steps
+    is = quiet-chained (halvesChain (ask rows) hs) (before .1)

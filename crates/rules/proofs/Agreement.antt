@@ -1,7 +1,7 @@
--- The conditions 6 to 13 as facts: none of them holds exactly when the halves agree on two participant accounts.
+-- The conditions 6 to 13 as facts: none of them holds exactly when the halves agree on two participant accounts, and their sides are two.
 use mathlib.Core.Path.{_≡_}
 use mathlib.Core.Logic.{_≢_}
-use mathlib.Core.Bool.{true, false, not, _||_}
+use mathlib.Core.Bool.{Bool, true, false, not, _||_}
 use mathlib.Core.List.{[], _∷_}
 use Prim.Native.Nat.{ℕ, _≤_, _<_}
 use native.Mathlib.Omega.{arith}
@@ -12,7 +12,7 @@ use Rattle.rules.specs.Tests.{isRow}
 use Rattle.rules.specs.Directory.{Rows, isKind, inBooks}
 use Rattle.rules.specs.Lookups.{ask}
 use Rattle.rules.specs.Booking.{limit, outOfRange, amountOutOfRange}
-use Rattle.rules.specs.Calls.{halfUnknown, halfOutOfRange, halvesDiffer, halvesConditions}
+use Rattle.rules.specs.Calls.{halfUnknown, halfOutOfRange, halvesDiffer, bothConditions}
 use Rattle.rules.specs.Demands.{Agree}
 use Rattle.rules.proofs.Basics.{unnot-false, or-none, or-false, eqb-is, eqb-true, eqb-not, eqb-false, ltb-is, ltb-true, ltb-not, ltb-false, Quiet}
 use Rattle.rules.proofs.Several.{none-hold}
@@ -64,30 +64,32 @@ named r F x b k c l =
     rw (ltb-true (x .account) (length (r .accounts)) (kind-row (r .accounts) (x .account) 0 k), F .homeRow b (x .counterpart) c, ltb-true (x .security) (length (r .securities)) l)
 
 -- ---- both halves
-module _ (r : Rows) (h g : Half) where
-  agreed-quiet : Agreed r h g → Quiet (halvesConditions (ask r) h g)
-  agreed-quiet A =
+module _ (r : Rows) (h g : Half) (unknown same : Bool) where
+  agreed-quiet : Agreed r h g → unknown ≡ false → same ≡ false → Quiet (bothConditions (ask r) h g unknown same)
+  agreed-quiet A sides two =
       let low : 1 ≤ h .quantity = A .quantity .0 in
       let high : h .quantity ≤ limit = A .quantity .1 in
       let most : h .amount ≤ limit = A .amount in
       let quantity : h .quantity ≡ g .quantity = A .sameQuantity in
       let amount : h .amount ≡ g .amount = A .sameAmount in
       let known = or-false (halfUnknown (ask r) h) (halfUnknown (ask r) g) (A .delivererNamed) (A .receiverNamed) in
-      let ranges = or-false (halfOutOfRange h) (halfOutOfRange g) (within-ranges h low high most) (within-ranges g (omega arith) (omega arith) (omega arith)) in
+      let ranges =
+      or-false (halfOutOfRange h || halfOutOfRange g) unknown
+      (or-false (halfOutOfRange h) (halfOutOfRange g) (within-ranges h low high most) (within-ranges g (omega arith) (omega arith) (omega arith))) sides in
       let kinds : (not (isKind (r .accounts) (h .account) 0) || not (isKind (r .accounts) (g .account) 0)) ≡ false = rw (A .deliverer, A .receiver) in
-      let same : halvesDiffer (ask r) h g ≡ false
+      let equal : halvesDiffer (ask r) h g ≡ false
       = rw (eqb-true (h .security) (g .security) (A .sameSecurity), eqb-true (h .quantity) (g .quantity) quantity, eqb-true (h .amount) (g .amount) amount, A .receiverCsd, A .delivererCsd) in
-      (known, (ranges, (kinds, (same, (eqb-false (h .account) (g .account) (A .two), tt)))))
+      (known, (ranges, (kinds, (two, (equal, (eqb-false (h .account) (g .account) (A .two), tt))))))
 
-  pub quiet-agree : Quiet (halvesConditions (ask r) h g) → Agreed r h g
+  pub quiet-agree : Quiet (bothConditions (ask r) h g unknown same) → Agreed r h g
   quiet-agree q =
       let named = or-none (halfUnknown (ask r) h) (halfUnknown (ask r) g) (q .0) in
-      let ranges = or-none (outOfRange (h .quantity)) (amountOutOfRange (h .amount)) (or-none (halfOutOfRange h) (halfOutOfRange g) (q .1 .0) .0) in
+      let ranges = or-none (outOfRange (h .quantity)) (amountOutOfRange (h .amount)) (or-none (halfOutOfRange h) (halfOutOfRange g) (or-none (halfOutOfRange h || halfOutOfRange g) unknown (q .1 .0) .0) .0) in
       let kinds = or-none (not (isKind (r .accounts) (h .account) 0)) (not (isKind (r .accounts) (g .account) 0)) (q .1 .1 .0) in
       let receiver = inBooks (r .accounts) (g .account) (h .counterpart) in
       let deliverer = inBooks (r .accounts) (h .account) (g .counterpart) in
-      let same =
-      none-hold (not (eqb (h .security) (g .security))) (not (eqb (h .quantity) (g .quantity)) ∷ not (eqb (h .amount) (g .amount)) ∷ not receiver ∷ not deliverer ∷ []) (q .1 .1 .1 .0) in
+      let equals =
+      none-hold (not (eqb (h .security) (g .security))) (not (eqb (h .quantity) (g .quantity)) ∷ not (eqb (h .amount) (g .amount)) ∷ not receiver ∷ not deliverer ∷ []) (q .1 .1 .1 .1 .0) in
       record {
         delivererNamed = named .0;
         receiverNamed = named .1;
@@ -95,16 +97,16 @@ module _ (r : Rows) (h g : Half) where
         amount = ltb-not limit (h .amount) (ranges .1);
         deliverer = unnot-false (isKind (r .accounts) (h .account) 0) (kinds .0);
         receiver = unnot-false (isKind (r .accounts) (g .account) 0) (kinds .1);
-        sameSecurity = equal (h .security) (g .security) (same .0);
-        sameQuantity = equal (h .quantity) (g .quantity) (same .1 .0);
-        sameAmount = equal (h .amount) (g .amount) (same .1 .1 .0);
-        receiverCsd = unnot-false receiver (same .1 .1 .1 .0);
-        delivererCsd = unnot-false deliverer (same .1 .1 .1 .1);
-        two = eqb-not (h .account) (g .account) (q .1 .1 .1 .1 .0);
+        sameSecurity = equal (h .security) (g .security) (equals .0);
+        sameQuantity = equal (h .quantity) (g .quantity) (equals .1 .0);
+        sameAmount = equal (h .amount) (g .amount) (equals .1 .1 .0);
+        receiverCsd = unnot-false receiver (equals .1 .1 .1 .0);
+        delivererCsd = unnot-false deliverer (equals .1 .1 .1 .1);
+        two = eqb-not (h .account) (g .account) (q .1 .1 .1 .1 .1 .0);
       }
 
-  pub agree-quiet : Facts r → Agree r h g → Quiet (halvesConditions (ask r) h g)
-  agree-quiet F A =
+  pub agree-quiet : Facts r → Agree r h g → unknown ≡ false → same ≡ false → Quiet (bothConditions (ask r) h g unknown same)
+  agree-quiet F A sides two =
       let from : isKind (r .accounts) (h .account) 0 ≡ true = says-kind-is (r .accounts) (h .account) 0 .tests (A .deliverer) in
       let to : isKind (r .accounts) (g .account) 0 ≡ true = says-kind-is (r .accounts) (g .account) 0 .tests (A .receiver) in
       let receiverCsd = says-csd-is (r .accounts) (g .account) (h .counterpart) .tests (A .receiverCsd) in
@@ -122,8 +124,10 @@ module _ (r : Rows) (h g : Half) where
         receiverCsd = receiverCsd;
         delivererCsd = delivererCsd;
         two = A .two;
-      })
+      }) sides two
 
+-- the same in the relations' words
+module _ (r : Rows) (h g : Half) where
   pub agreed-agree : Agreed r h g → Agree r h g
   unfolding isRow
   agreed-agree A =

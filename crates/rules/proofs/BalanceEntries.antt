@@ -11,7 +11,7 @@ use lib.Signed.{_≤ℤ_, ≤ℤ-refl}
 use lib.Dec.{eqb}
 use lib.ListN.{length}
 use Rattle.rules.specs.Types.{Account, Pair}
-use Rattle.rules.specs.Tests.{any, isFull, lowest}
+use Rattle.rules.specs.Tests.{any, isFull, firstOf}
 use Rattle.rules.specs.Directory.{Rows, securityLimit, accountLimit, noAccount, isKind, inBooks, uses, isPaired}
 use Rattle.rules.specs.Lookups.{ask}
 use Rattle.rules.specs.Entries.{pairRefusal, accountConditions, pairConditions, Row, csdRow, securityRow, accountRow, pairRow, linkRow, rowConditions}
@@ -27,7 +27,7 @@ use Rattle.rules.proofs.NewPairs.{NewPair, accepted-pair}
 use Rattle.rules.proofs.Balance.{heldSum, InBalance}
 
 -- ---- an account
-module _ (r : Rows) (F : Facts r) (p : List ℤ) (B : InBalance r p) (x : Account) (ok : lowest (accountConditions (ask r) x) ≡ 0) where
+module _ (r : Rows) (F : Facts r) (p : List ℤ) (B : InBalance r p) (x : Account) (ok : firstOf (accountConditions (ask r) x) ≡ 0) where
   abbrev new : ℕ
   new = length (r .accounts)
 
@@ -93,7 +93,7 @@ module _ (r : Rows) (F : Facts r) (p : List ℤ) (B : InBalance r p) (x : Accoun
       }
 
 -- ---- a pair
-module _ (r : Rows) (F : Facts r) (p : List ℤ) (B : InBalance r p) (x : Pair) (ok : lowest (pairConditions (ask r) x) ≡ 0) where
+module _ (r : Rows) (F : Facts r) (p : List ℤ) (B : InBalance r p) (x : Pair) (ok : firstOf (pairConditions (ask r) x) ≡ 0) where
   entered : NewPair r (r .pairs) x
   unfolding pairRefusal
   entered = accepted-pair r (r .pairs) x ok
@@ -134,7 +134,7 @@ module _ (r : Rows) (F : Facts r) (p : List ℤ) (B : InBalance r p) (x : Pair) 
           B .idle a s ha hs (or-false (plain (r .accounts) a) (any (uses a) (r .pairs)) (h .0) (fewer (r .pairs) a (h .1)))
 
 -- ---- any row
-pub row-keeps : (r : Rows) → Facts r → (p : List ℤ) → InBalance r p → (x : Row) → lowest (rowConditions r x) ≡ 0 → InBalance (withRow x r) p
+pub row-keeps : (r : Rows) → Facts r → (p : List ℤ) → InBalance r p → (x : Row) → firstOf (rowConditions r x) ≡ 0 → InBalance (withRow x r) p
 row-keeps r F p B (csdRow x) ok = record { size = B .size; books = B .books; mirrors = B .mirrors; floor = B .floor; idle = B .idle }
 row-keeps r F p B (securityRow x) ok = record { size = B .size; books = B .books; mirrors = B .mirrors; floor = B .floor; idle = B .idle }
 row-keeps r F p B (accountRow x) ok = account-keeps r F p B x ok
@@ -142,7 +142,7 @@ row-keeps r F p B (pairRow x) ok = pair-keeps r F p B x ok
 row-keeps r F p B (linkRow x) ok = record { size = B .size; books = B .books; mirrors = B .mirrors; floor = B .floor; idle = B .idle }
 
 -- the participants' positions together are as before
-pub row-supply : (r : Rows) → Facts r → (p : List ℤ) → InBalance r p → (x : Row) → lowest (rowConditions r x) ≡ 0
+pub row-supply : (r : Rows) → Facts r → (p : List ℤ) → InBalance r p → (x : Row) → firstOf (rowConditions r x) ≡ 0
     → (s : ℕ) → s < securityLimit → heldSum (withRow x r) p s ≡ heldSum r p s
 row-supply r F p B (csdRow x) ok s hs = refl
 row-supply r F p B (securityRow x) ok s hs = refl

@@ -18,19 +18,17 @@ use Rattle.rules.specs.Refusals
 use Rattle.rules.specs.Refusals.{NoRow, Capital, Digit, CapitalOrDigit, CsdRefused, SecurityRefused, AccountRefused}
 use Rattle.rules.proofs.Basics.{unnot-false}
 use Rattle.rules.proofs.Reflection.{Says, says-as, says-or, says-lt}
-use Rattle.rules.proofs.Places.{Renders, end, skip, test}
+use Rattle.rules.proofs.Places.{Renders, end, skip, test, upFrom, entryPlaces}
 use Rattle.rules.proofs.RowTests.{says-no-row, says-full, says-external}
 use Rattle.rules.proofs.IdentifierRelation.{says-no-bic, says-bic-entered, says-no-isin, says-isin-entered, Wrong, says-wrong}
 
--- the places of an entry, and those behind them
-abbrev pub entryPlaces : List ℕ
-entryPlaces = 5 ∷ 6 ∷ 7 ∷ 8 ∷ 9 ∷ 10 ∷ 11 ∷ 12 ∷ 13 ∷ 14 ∷ 15 ∷ 16 ∷ 17 ∷ 18 ∷ 19 ∷ 20 ∷ 21 ∷ 22 ∷ []
-
+-- the places behind those of an entry
 abbrev late : ℕ → ℕ
 late n = suc (suc (suc (suc (suc (suc (suc (suc (suc (suc (suc (suc n)))))))))))
 
-pub behind : {P : ℕ → Type 0} → ((n : ℕ) → P (late n) → ⊥) → Renders P [] (12 ∷ 13 ∷ 14 ∷ 15 ∷ 16 ∷ 17 ∷ 18 ∷ 19 ∷ 20 ∷ 21 ∷ 22 ∷ [])
-behind h = skip (h 0) (skip (h 1) (skip (h 2) (skip (h 3) (skip (h 4) (skip (h 5) (skip (h 6) (skip (h 7) (skip (h 8) (skip (h 9) (skip (h 10) end))))))))))
+pub behind : {P : ℕ → Type 0} → ((n : ℕ) → P (late n) → ⊥) → Renders P [] (23 ∷ upFrom 12 11 [])
+behind h =
+    skip (h 11) (skip (h 0) (skip (h 1) (skip (h 2) (skip (h 3) (skip (h 4) (skip (h 5) (skip (h 6) (skip (h 7) (skip (h 8) (skip (h 9) (skip (h 10) end)))))))))))
 
 -- a number that is neither 0 nor 1
 pub says-neither : (n : ℕ) → Says ((n ≢ 0) × (n ≢ 1)) (ltb 1 n)

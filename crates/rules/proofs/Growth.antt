@@ -6,7 +6,7 @@ use Prim.Native.Nat.{ℕ, _+_, _<_}
 use native.Mathlib.Omega.{arith}
 use lib.Dec.{leb}
 use Rattle.rules.specs.Types.{Account, Pair, Link, Directory}
-use Rattle.rules.specs.Tests.{lowest}
+use Rattle.rules.specs.Tests.{firstOf}
 use Rattle.rules.specs.Entries as Entry
 use Rattle.rules.specs.Directory.{Rows, rowsOf, csdLimit, securityLimit, accountLimit, pairLimit, linkLimit}
 use Rattle.rules.specs.Entries.{Row, csdRow, securityRow, accountRow, pairRow, linkRow, rowConditions, addRow, csdsSound, securitiesSound, accountsSound, pairsSound, linksSound, withinLimits, soundRows, sound, Sized}
@@ -43,7 +43,7 @@ module _ (r r′ : Rows) (G : Grows r r′) where
       accepts-link r′ b x (record { room = n .room; unentered = n .unentered; noLink = n .noLink; noIssuer = n .noIssuer; flagFits = n .flagFits; facts = link-stays r r′ G x (n .facts) })) [] ls e
 
 -- ---- the directory with one more row
-keeps-tables : (x : Row) (r : Rows) → lowest (rowConditions r x) ≡ 0 → SoundTables r → SoundTables (withRow x r)
+keeps-tables : (x : Row) (r : Rows) → firstOf (rowConditions r x) ≡ 0 → SoundTables r → SoundTables (withRow x r)
 unfolding csdsSound securitiesSound accountsSound pairsSound linksSound Entry.csdRefusal Entry.securityRefusal Entry.accountRefusal Entry.pairRefusal Entry.linkRefusal
 keeps-tables (csdRow x) r e S =
     let G = grows (csdRow x) r in
@@ -103,7 +103,7 @@ keeps-limits (pairRow x) d l L =
 keeps-limits (linkRow x) d l L =
     record { csds = L .csds; securities = L .securities; accounts = L .accounts; pairs = L .pairs; links = counted (d .links .count) linkLimit l }
 
-pub keeps-sound : (x : Row) (d : Directory) → Sized d → sound d ≡ true → lowest (rowConditions (rowsOf d) x) ≡ 0 → sound (addRow x d) ≡ true
+pub keeps-sound : (x : Row) (d : Directory) → Sized d → sound d ≡ true → firstOf (rowConditions (rowsOf d) x) ≡ 0 → sound (addRow x d) ≡ true
 unfolding sound
 keeps-sound x d z s e =
     let parts = and-both (withinLimits d) (soundRows (rowsOf d)) s in

@@ -63,8 +63,8 @@ refused-changed : (c : Call) (n : ℕ) (r : Rows) (st : Store) → Changed c r (
 refused-changed (enter x) n r st = unchanged (enter x) (Refused n) st
 refused-changed (move w a s q) n r st = unchanged (move w a s q) (Refused n) st
 refused-changed (pay w a m) n r st = unchanged (pay w a m) (Refused n) st
-refused-changed (settle h g lent) n r st = unchanged (settle h g lent) (Refused n) st
-refused-changed (derive h g lent) n r st = unchanged (derive h g lent) (Refused n) st
+refused-changed (settle hs lent) n r st = unchanged (settle hs lent) (Refused n) st
+refused-changed (derive hs lent) n r st = unchanged (derive hs lent) (Refused n) st
 
 pub refused-keeps : (c : Call) (n : ℕ) (items : List Item) (st : Store) → Kept items st → Kept (item c (Refused n) st st ∷ items) st
 unfolding made brought paidIn
@@ -104,8 +104,8 @@ pairs-stay (enter (pairRow x)) r p m = Memᴰ·append-left (x ∷ []) m
 pairs-stay (enter (linkRow x)) r p m = m
 pairs-stay (move w a s q) r p m = m
 pairs-stay (pay w a m′) r p m = m
-pairs-stay (settle h g lent) r p m = m
-pairs-stay (derive h g lent) r p m = m
+pairs-stay (settle hs lent) r p m = m
+pairs-stay (derive hs lent) r p m = m
 
 pair-added : (c : Call) (r : Rows) (p : Pair) → c ≡ enter (pairRow p) → List·Memᴰ p (grown c r .pairs)
 pair-added c r p e = rw e (Memᴰ·append-right (r .pairs) (List·Memᴰ·head refl))

@@ -6,7 +6,7 @@ use mathlib.Core.List.{List}
 use Prim.Native.Nat.{_<_}
 use lib.Dec.{eqb, ltb}
 use lib.ListN.{length}
-use Rattle.rules.specs.Types.{Half, Step}
+use Rattle.rules.specs.Types.{Halves, Step}
 use Rattle.rules.specs.Chain.{stepLimit}
 use Rattle.rules.specs.Booking.{positionCount, cashCount}
 use Rattle.rules.specs.Calls.{Store, Call, enter, move, pay, settle, derive, misfit}
@@ -14,20 +14,20 @@ use Rattle.rules.specs.Refusals.{Misfits, movePositions, payCash, settle
 use Rattle.rules.proofs.Reflection.{Says, says-as, says-or, says-ne, says-lt}
 
 module _ (st : Store) where
-  settle-misfits : (h g : Half) (lent : List Step) → Says (Misfits st (settle h g lent)) (misfit (settle h g lent) st)
+  settle-misfits : (hs : Halves) (lent : List Step) → Says (Misfits st (settle hs lent)) (misfit (settle hs lent) st)
   unfolding misfit
-  settle-misfits h g lent =
+  settle-misfits hs lent =
       says-as
       (says-or (not (eqb (length (st .positions)) positionCount)) _ (says-ne (length (st .positions)) positionCount)
       (says-or (not (eqb (length (st .cash)) cashCount)) (ltb (length lent) stepLimit) (says-ne (length (st .cash)) cashCount) (says-lt (length lent) stepLimit)))
       to from
     where
-      to : (length (st .positions) ≢ positionCount) ⊎ ((length (st .cash) ≢ cashCount) ⊎ (length lent < stepLimit)) → Misfits st (settle h g lent)
+      to : (length (st .positions) ≢ positionCount) ⊎ ((length (st .cash) ≢ cashCount) ⊎ (length lent < stepLimit)) → Misfits st (settle hs lent)
       to (inl e) = settlePositions e
       to (inr (inl e)) = settleCash e
       to (inr (inr l)) = settleSteps l
 
-      from : Misfits st (settle h g lent) → (length (st .positions) ≢ positionCount) ⊎ ((length (st .cash) ≢ cashCount) ⊎ (length lent < stepLimit))
+      from : Misfits st (settle hs lent) → (length (st .positions) ≢ positionCount) ⊎ ((length (st .cash) ≢ cashCount) ⊎ (length lent < stepLimit))
       from (settlePositions e) = inl e
       from (settleCash e) = inr (inl e)
       from (settleSteps l) = inr (inr l)
@@ -43,8 +43,8 @@ module _ (st : Store) where
     where
       from : Misfits st (pay w a m) → length (st .cash) ≢ cashCount
       from (payCash e) = e
-  says-misfit (settle h g lent) = settle-misfits h g lent
-  says-misfit (derive h g lent) = says-as (says-lt (length lent) stepLimit) deriveSteps from
+  says-misfit (settle hs lent) = settle-misfits hs lent
+  says-misfit (derive hs lent) = says-as (says-lt (length lent) stepLimit) deriveSteps from
     where
-      from : Misfits st (derive h g lent) → length lent < stepLimit
+      from : Misfits st (derive hs lent) → length lent < stepLimit
       from (deriveSteps l) = l

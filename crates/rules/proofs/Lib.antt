@@ -13,6 +13,8 @@ pub mod SoundRelation
 pub mod LentRelation
 pub mod AmountRelation
 pub mod MoveRelation
+pub mod SideRelation
+pub mod HalvesRelation
 pub mod SettleRelation
 pub mod Ruling
 pub mod FirstRow
@@ -69,6 +71,7 @@ pub mod Funds
 pub mod EmptyStore
 pub mod Kept
 pub mod Lists
+pub mod SidesWritten
 pub mod Theorems
 pub mod Running
 pub mod Logs

@@ -18,9 +18,9 @@ use Rattle.rules.specs.Refusals.{NoRow, Linked, LinkRefused}
 use Rattle.rules.proofs.Basics.{and-both, and-true, and-first, or-none, or-right, eqb-is, eqb-true, ltb-not}
 use Rattle.rules.proofs.Several.{none-hold}
 use Rattle.rules.proofs.Reflection.{Says, says-as, says-not, says-or, says-and, says-cond, says-eq, says-ne}
-use Rattle.rules.proofs.Places.{Renders, skip, test}
+use Rattle.rules.proofs.Places.{Renders, skip, test, entryPlaces}
 use Rattle.rules.proofs.RowTests.{says-no-row, says-full, known, says-external, says-other-account, says-any-link, says-issuer, says-investor, says-link-to}
-use Rattle.rules.proofs.EntryRelation.{entryPlaces, behind, says-neither}
+use Rattle.rules.proofs.EntryRelation.{behind, says-neither}
 
 module _ (cs : List Csd) (ss : List Security) (acc : List Account) (ps : List Pair) (ls : List Link) (x : Link) where
   abbrev rows : Rows

@@ -4,14 +4,14 @@ use mathlib.Core.List.{List, [], _∷_}
 use Prim.Native.Nat.{ℕ, zero, suc, _<_}
 use lib.IntN.{ℤ, pos, _+ℤ_, +ℤ-idr}
 use lib.Dec.{eqb}
-use Rattle.rules.specs.Types.{Half, Step}
-use Rattle.rules.specs.Tests.{lowest}
+use Rattle.rules.specs.Types.{Half, Halves, Step}
+use Rattle.rules.specs.Tests.{firstOf}
 use Rattle.rules.specs.Directory.{Rows, rowsOf, securityLimit}
 use Rattle.rules.specs.Entries.{Row, Sized}
 use Rattle.rules.specs.Lookups.{ask}
 use Rattle.rules.specs.Chain.{stepsOf}
 use Rattle.rules.specs.Booking.{Way}
-use Rattle.rules.specs.Calls.{Store, Call, enter, move, pay, settle, derive, coreConditions, deskConditions, desk, outcome, success, changed, Item, item, Run, next, runFrom, run, emptyStore, halvesChain}
+use Rattle.rules.specs.Calls.{Store, Call, enter, move, pay, settle, derive, coreConditions, deskConditions, desk, outcome, success, changed, Item, item, Run, next, runFrom, run, emptyStore, delivering, receiving, halvesChain}
 use Rattle.rules.specs.Demands.{signed, Log, begins, calls, Balanced}
 use Rattle.rules.proofs.Sums.{pick-zero}
 use Rattle.rules.proofs.Facts.{Facts}
@@ -32,7 +32,7 @@ module _ (st : Store) (size : Sized (st .directory)) (B : InBalance (rowsOf (st 
   r = rowsOf (st .directory)
 
   abbrev Done : Call → Type 0
-  Done c = lowest (deskConditions c st) ≡ 0 → Keeps r c (success c st) st (changed c st)
+  Done c = firstOf (deskConditions c st) ≡ 0 → Keeps r c (success c st) st (changed c st)
 
   same-supply : (s : ℕ) → s < securityLimit → heldSum r (st .positions) s ≡ heldSum r (st .positions) s +ℤ pos 0
   same-supply s hs = sym (+ℤ-idr (heldSum r (st .positions) s))
@@ -42,7 +42,7 @@ module _ (st : Store) (size : Sized (st .directory)) (B : InBalance (rowsOf (st 
 
   enter-done : (x : Row) → Done (enter x)
   enter-done x free =
-      let ok : lowest (coreConditions (enter x) st) ≡ 0 = core-free (enter x) st free in
+      let ok : firstOf (coreConditions (enter x) st) ≡ 0 = core-free (enter x) st free in
       let F : Facts r = facts-of (enter x) st free in
       record {
         sized = added-sized x (st .directory) size;
@@ -83,11 +83,13 @@ module _ (st : Store) (size : Sized (st .directory)) (B : InBalance (rowsOf (st 
         changed = tt;
       }
 
-  settle-done : (h g : Half) (lent : List Step) → Done (settle h g lent)
-  settle-done h g lent free =
-      let F : Facts r = facts-of (settle h g lent) st free in
-      let steps : List Step = stepsOf (halvesChain (ask r) h g) in
-      let S : SettleFacts st h g steps = settle-facts st h g lent free in
+  settle-done : (hs : Halves) (lent : List Step) → Done (settle hs lent)
+  settle-done hs lent free =
+      let F : Facts r = facts-of (settle hs lent) st free in
+      let h : Half = delivering hs in
+      let g : Half = receiving hs in
+      let steps : List Step = stepsOf (halvesChain (ask r) hs) in
+      let S : SettleFacts st hs steps = settle-facts st hs lent free in
       record {
         sized = size;
         rows = refl;
@@ -99,30 +101,33 @@ module _ (st : Store) (size : Sized (st .directory)) (B : InBalance (rowsOf (st 
         funded = paid-keeps (st .cash) (g .account) (h .account) (h .amount) funds (S .payer) (S .payee) (λ e. S .agree .two (sym e)) (S .allowed .cash);
         money = paid-sum (st .cash) (g .account) (h .account) (h .amount) funds (S .payer) (S .payee) ∙ same-money;
         changed = record {
+          delivering = h;
+          receiving = g;
+          sides = S .sides;
           steps = steps;
           chain = chain-given-is r F (h .security) (h .account) (g .account) steps (S .chain);
-          units = settle-units st h g steps S;
-          cents = settle-cents st h g steps S;
+          units = settle-units st hs steps S;
+          cents = settle-cents st hs steps S;
         };
       }
 
-  derive-done : (h g : Half) (lent : List Step) → Done (derive h g lent)
-  derive-done h g lent free =
+  derive-done : (hs : Halves) (lent : List Step) → Done (derive hs lent)
+  derive-done hs lent free =
       record { sized = size; rows = refl; inBalance = B; supply = same-supply; funded = funds; money = same-money; changed = record { positions = refl; cash = refl } }
 
   call-done : (c : Call) → Done c
   call-done (enter x) = enter-done x
   call-done (move w a s q) = move-done w a s q
   call-done (pay w a m) = pay-done w a m
-  call-done (settle h g lent) = settle-done h g lent
-  call-done (derive h g lent) = derive-done h g lent
+  call-done (settle hs lent) = settle-done hs lent
+  call-done (derive hs lent) = derive-done hs lent
 
 -- ---- every call
 call-keeps : (c : Call) (items : List Item) (st : Store) → Kept items st → Kept (item c (desk c st .answer) st (desk c st .store) ∷ items) (desk c st .store)
 unfolding desk
-call-keeps c items st K = go (lowest (deskConditions c st)) refl
+call-keeps c items st K = go (firstOf (deskConditions c st)) refl
   where
-    go : (n : ℕ) → lowest (deskConditions c st) ≡ n → Kept (item c (outcome n c st .answer) st (outcome n c st .store) ∷ items) (outcome n c st .store)
+    go : (n : ℕ) → firstOf (deskConditions c st) ≡ n → Kept (item c (outcome n c st .answer) st (outcome n c st .store) ∷ items) (outcome n c st .store)
     go zero e =
         let B : InBalance (rowsOf (st .directory)) (st .positions) = subst (λ (r : Rows). InBalance r (st .positions)) (sym (K .rows)) (K .inBalance) in
         accepted-keeps c (success c st) items st (changed c st) (success-accepted c st) K

@@ -3,8 +3,8 @@ use Prim.Native.Nat.{ℕ, zero, suc}
 use mathlib.Core.Path.{_≡_, refl, ap, _∙_}
 use mathlib.Core.List.{List, []}
 use lib.IntN.{ℤ}
-use Rattle.rules.specs.Types.{Half, Step, Answer, Entered, Reply}
-use Rattle.rules.specs.Tests.{lowest}
+use Rattle.rules.specs.Types.{Halves, Step, Answer, Entered, Reply}
+use Rattle.rules.specs.Tests.{firstOf}
 use Rattle.rules.specs.Entries.{Row}
 use Rattle.rules.specs.Booking.{Way}
 use Rattle.rules.specs.Calls.{Store, Call, enter, move, pay, settle, derive, outcome, misfit, deskConditions, desk, Item}
@@ -47,54 +47,54 @@ module _ (st : Store) where
   payment-store zero w a m = refl
   payment-store (suc n) w a m = refl
 
-  settlement-directory : (n : ℕ) (h g : Half) (lent : List Step)
-      → holding (st .directory) (outcome n (settle h g lent) st .store .positions) (outcome n (settle h g lent) st .store .cash) ≡ outcome n (settle h g lent) st .store
-  settlement-directory zero h g lent = refl
-  settlement-directory (suc n) h g lent = refl
+  settlement-directory : (n : ℕ) (hs : Halves) (lent : List Step)
+      → holding (st .directory) (outcome n (settle hs lent) st .store .positions) (outcome n (settle hs lent) st .store .cash) ≡ outcome n (settle hs lent) st .store
+  settlement-directory zero hs lent = refl
+  settlement-directory (suc n) hs lent = refl
 
-  derivation-answer : (n : ℕ) (h g : Half) (lent : List Step) → outcome n (derive h g lent) (holding (st .directory) [] []) .answer ≡ outcome n (derive h g lent) st .answer
-  derivation-answer zero h g lent = refl
-  derivation-answer (suc n) h g lent = refl
+  derivation-answer : (n : ℕ) (hs : Halves) (lent : List Step) → outcome n (derive hs lent) (holding (st .directory) [] []) .answer ≡ outcome n (derive hs lent) st .answer
+  derivation-answer zero hs lent = refl
+  derivation-answer (suc n) hs lent = refl
 
-  derivation-store : (n : ℕ) (h g : Half) (lent : List Step) → st ≡ outcome n (derive h g lent) st .store
-  derivation-store zero h g lent = refl
-  derivation-store (suc n) h g lent = refl
+  derivation-store : (n : ℕ) (hs : Halves) (lent : List Step) → st ≡ outcome n (derive hs lent) st .store
+  derivation-store zero hs lent = refl
+  derivation-store (suc n) hs lent = refl
 
-  asked-settlement : (h g : Half) (lent : List Step) (r : Answer) (p c : List ℤ) → r ≡ desk (settle h g lent) st .answer
-      → p ≡ desk (settle h g lent) st .store .positions → c ≡ desk (settle h g lent) st .store .cash → Asked st (settle h g lent) r (holding (st .directory) p c)
+  asked-settlement : (hs : Halves) (lent : List Step) (r : Answer) (p c : List ℤ) → r ≡ desk (settle hs lent) st .answer
+      → p ≡ desk (settle hs lent) st .store .positions → c ≡ desk (settle hs lent) st .store .cash → Asked st (settle hs lent) r (holding (st .directory) p c)
   unfolding desk
-  asked-settlement h g lent r p c a e f = record { answer = a; store = rw (e, f) (settlement-directory (lowest (deskConditions (settle h g lent) st)) h g lent) }
+  asked-settlement hs lent r p c a e f = record { answer = a; store = rw (e, f) (settlement-directory (firstOf (deskConditions (settle hs lent) st)) hs lent) }
 
-  asked-derivation : (h g : Half) (lent : List Step) (r : Answer) → r ≡ derivationOn (st .directory) lent h g .answer → Asked st (derive h g lent) r st
+  asked-derivation : (hs : Halves) (lent : List Step) (r : Answer) → r ≡ derivationOn (st .directory) lent hs .answer → Asked st (derive hs lent) r st
   unfolding desk misfit
-  asked-derivation h g lent r e =
-      let n = lowest (deskConditions (derive h g lent) st) in
-      record { answer = e ∙ derivation-answer n h g lent; store = derivation-store n h g lent }
+  asked-derivation hs lent r e =
+      let n = firstOf (deskConditions (derive hs lent) st) in
+      record { answer = e ∙ derivation-answer n hs lent; store = derivation-store n hs lent }
 
   asked : (c : Call) (r : Answer) (left : Store) → Made st c r left → Asked st c r left
   unfolding desk misfit
   asked c r left (entered x made e) =
-      let n = lowest (deskConditions (enter x) st) in
+      let n = firstOf (deskConditions (enter x) st) in
       record {
         answer = ap (λ (y : Entered). y .answer) e ∙ entry-answer n x;
         store = ap (λ (y : Entered). holding (y .directory) (st .positions) (st .cash)) e ∙ entry-store n x;
       }
   asked c r left (moved w a s q x p e) =
-      let n = lowest (deskConditions (move w a s q) st) in
+      let n = firstOf (deskConditions (move w a s q) st) in
       record {
         answer = e .0 ∙ movement-answer n w a s q;
         store = ap (λ (y : List ℤ). holding (st .directory) y (st .cash)) (e .1) ∙ movement-store n w a s q;
       }
   asked c r left (paid w a m x k e) =
-      let n = lowest (deskConditions (pay w a m) st) in
+      let n = firstOf (deskConditions (pay w a m) st) in
       record {
         answer = e .0 ∙ payment-answer n w a m;
         store = ap (λ (y : List ℤ). holding (st .directory) (st .positions) y) (e .1) ∙ payment-store n w a m;
       }
-  asked c r left (settled h g lent x p k steps e) = asked-settlement h g lent x p k (e .0) (e .1) (e .2)
-  asked c r left (settledByValue n h g x p k e) = asked-settlement h g (blanks n) (x .answer) p k (ap (λ (y : Reply). y .answer) (e .0)) (e .1) (e .2)
-  asked c r left (derived h g lent x steps e) = asked-derivation h g lent x (e .0)
-  asked c r left (derivedByValue n h g x e) = asked-derivation h g (blanks n) (x .answer) (ap (λ (y : Reply). y .answer) e)
+  asked c r left (settled hs lent x p k steps e) = asked-settlement hs lent x p k (e .0) (e .1) (e .2)
+  asked c r left (settledByValue n hs x p k e) = asked-settlement hs (blanks n) (x .answer) p k (ap (λ (y : Reply). y .answer) (e .0)) (e .1) (e .2)
+  asked c r left (derived hs lent x steps e) = asked-derivation hs lent x (e .0)
+  asked c r left (derivedByValue n hs x e) = asked-derivation hs (blanks n) (x .answer) (ap (λ (y : Reply). y .answer) e)
 
 desk-logs : (items : List Item) (st : Store) → DeskLog items st → Log items st
 desk-logs items st (desk-log.begins e) = begins e

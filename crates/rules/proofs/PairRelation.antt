@@ -17,9 +17,9 @@ use Rattle.rules.specs.Refusals.{NoRow, Paired, PairRefused}
 use Rattle.rules.proofs.Basics.{bool-cases, and-first}
 use Rattle.rules.proofs.Several.{none-hold}
 use Rattle.rules.proofs.Reflection.{Says, says-as, says-not, says-or, says-and, says-not-and, says-eq, says-ne, denies}
-use Rattle.rules.proofs.Places.{Renders, skip, test}
+use Rattle.rules.proofs.Places.{Renders, skip, test, entryPlaces}
 use Rattle.rules.proofs.RowTests.{says-no-row, says-full, known, says-external, says-other-account, says-paired, says-joined}
-use Rattle.rules.proofs.EntryRelation.{entryPlaces, behind}
+use Rattle.rules.proofs.EntryRelation.{behind}
 
 module _ (cs : List Csd) (ss : List Security) (acc : List Account) (ps : List Pair) (ls : List Link) (x : Pair) where
   abbrev rows : Rows

@@ -8,8 +8,8 @@ use native.Mathlib.Omega.{arith}
 use lib.IntN.{ℤ}
 use lib.Dec.{eqb}
 use lib.ListN.{length}
-use Rattle.rules.specs.Types.{Account, Directory, Half, Units, Cents, SumUnits, SumCents}
-use Rattle.rules.specs.Tests.{isRow, Condition, lowest}
+use Rattle.rules.specs.Types.{Account, Directory, Halves, Units, Cents, SumUnits, SumCents}
+use Rattle.rules.specs.Tests.{isRow, Condition, firstOf}
 use Rattle.rules.specs.Directory.{Rows, rowsOf, accountLimit, isKind}
 use Rattle.rules.specs.Entries.{Row, csdRow, securityRow, accountRow, pairRow, linkRow, sound}
 use Rattle.rules.specs.Booking.{positionCount, cashCount, heldIn, cashOn, beyond, participants, everyAccount, sumBeyond, participantSum, cashSum, securityTotalBy, cashTotalBy}
@@ -20,20 +20,19 @@ use Rattle.rules.specs.Refusals
 use Rattle.rules.specs.Refusals.{places, NoRow, Beyond, RowRefused, DeriveRefused, SettleRefused, CoreRefused, Applies, UnitsTotalRefused, CashTotalRefused}
 use Rattle.rules.proofs.Basics.{unnot-false, eqb-is, eqb-not}
 use Rattle.rules.proofs.Reflection.{Says, says-as, says-not, says-or, says-and, says-ne}
-use Rattle.rules.proofs.Places.{Renders, end, skip, test, none-applies, none-holds, given-first, first-given, renders-as, not-below}
+use Rattle.rules.proofs.Places.{Renders, end, skip, test, none-applies, none-holds, given-first, first-given, renders-as, entryPlaces, entry-range}
 use Rattle.rules.proofs.RowTests.{says-no-row, says-kind-is}
 use Rattle.rules.proofs.AmountRelation.{says-beyond}
-use Rattle.rules.proofs.EntryRelation.{entryPlaces}
 use Rattle.rules.proofs.SoundRelation.{row-renders, says-sound}
 use Rattle.rules.proofs.LentRelation.{says-misfit}
 use Rattle.rules.proofs.MoveRelation.{move-renders, pay-renders}
-use Rattle.rules.proofs.SettleRelation.{halves-else, derive-renders, settle-renders}
+use Rattle.rules.proofs.SettleRelation.{derive-renders, settle-renders}
 use Rattle.rules.proofs.Refusals.{unitsConditions, cashConditions}
 use Rattle.rules.proofs.Facts.{Facts}
 use Rattle.rules.proofs.Soundness.{sound-gives}
 
 -- a number by which conditions that render the propositions decide
-pub decides : {P : ℕ → Type 0} {cs : List Condition} (number : ℕ) → lowest cs ≡ number → Renders P cs places → Decides P number
+pub decides : {P : ℕ → Type 0} {cs : List Condition} (number : ℕ) → firstOf cs ≡ number → Renders P cs places → Decides P number
 decides {P} {cs} number e R =
     record {
       whenClear = λ clear. sym e ∙ none-holds R clear;
@@ -42,7 +41,7 @@ decides {P} {cs} number e R =
       isFirst = λ ne. go number e ne;
     }
   where
-    go : (n : ℕ) → lowest cs ≡ n → n ≢ 0 → Refusals.First P n places
+    go : (n : ℕ) → firstOf cs ≡ n → n ≢ 0 → Refusals.First P n places
     go zero f ne = absurd (ne refl)
     go (suc n) f ne = given-first R n f
 
@@ -53,8 +52,8 @@ core-renders : (c : Call) (st : Store) → Facts (rowsOf (st .directory)) → Re
 core-renders (enter x) st F = row-renders (rowsOf (st .directory)) x
 core-renders (move w a s q) st F = move-renders (rowsOf (st .directory)) F (st .positions) w a s q
 core-renders (pay w a m) st F = pay-renders (rowsOf (st .directory)) (st .cash) w a m
-core-renders (settle h g lent) st F = settle-renders (rowsOf (st .directory)) F h g (st .positions) (st .cash)
-core-renders (derive h g lent) st F = derive-renders (rowsOf (st .directory)) F h g
+core-renders (settle hs lent) st F = settle-renders (rowsOf (st .directory)) F hs (st .positions) (st .cash)
+core-renders (derive hs lent) st F = derive-renders (rowsOf (st .directory)) F hs
 
 -- 3 and 4 are no numbers of a row or of halves
 row-early : (r : Rows) (x : Row) → (RowRefused r x 3 → ⊥) × (RowRefused r x 4 → ⊥)
@@ -64,35 +63,41 @@ row-early r (accountRow x) = ((λ p. elim p [ ]), (λ p. elim p [ ]))
 row-early r (pairRow x) = ((λ p. elim p [ ]), (λ p. elim p [ ]))
 row-early r (linkRow x) = ((λ p. elim p [ ]), (λ p. elim p [ ]))
 
-module _ (r : Rows) (h g : Half) where
-  derive-three : DeriveRefused r h g 3 → ⊥
-  derive-three (Refusals.halves x) = halves-else r h g 3 (λ e. omega arith) (λ e. omega arith) (λ e. omega arith) (λ e. omega arith) (λ e. omega arith) x
-  derive-three (Refusals.chain c) = elim c [ ]
+module _ (r : Rows) (hs : Halves) where
+  derive-three : DeriveRefused r hs 3 → ⊥
+  derive-three (Refusals.halves (Refusals.each h a x)) = elim x [ ]
+  derive-three (Refusals.halves (Refusals.sides x)) = elim x [ ]
+  derive-three (Refusals.halves (Refusals.both h g d x)) = elim x [ ]
+  derive-three (Refusals.chain h g d c) = elim c [ ]
 
-  derive-four : DeriveRefused r h g 4 → ⊥
-  derive-four (Refusals.halves x) = halves-else r h g 4 (λ e. omega arith) (λ e. omega arith) (λ e. omega arith) (λ e. omega arith) (λ e. omega arith) x
-  derive-four (Refusals.chain c) = elim c [ ]
+  derive-four : DeriveRefused r hs 4 → ⊥
+  derive-four (Refusals.halves (Refusals.each h a x)) = elim x [ ]
+  derive-four (Refusals.halves (Refusals.sides x)) = elim x [ ]
+  derive-four (Refusals.halves (Refusals.both h g d x)) = elim x [ ]
+  derive-four (Refusals.chain h g d c) = elim c [ ]
 
-  settle-three : (p c : List ℤ) → SettleRefused r p c h g 3 → ⊥
+  settle-three : (p c : List ℤ) → SettleRefused r p c hs 3 → ⊥
   settle-three p c (Refusals.derivation d) = derive-three d
+  settle-three p c (Refusals.booking h g d x) = elim x [ ]
 
-  settle-four : (p c : List ℤ) → SettleRefused r p c h g 4 → ⊥
+  settle-four : (p c : List ℤ) → SettleRefused r p c hs 4 → ⊥
   settle-four p c (Refusals.derivation d) = derive-four d
+  settle-four p c (Refusals.booking h g d x) = elim x [ ]
 
 core-early : (c : Call) (st : Store) → (CoreRefused c st 3 → ⊥) × (CoreRefused c st 4 → ⊥)
 core-early (enter x) st = row-early (rowsOf (st .directory)) x
 core-early (move w a s q) st = ((λ p. elim p [ ]), (λ p. elim p [ ]))
 core-early (pay w a m) st = ((λ p. elim p [ ]), (λ p. elim p [ ]))
-core-early (settle h g lent) st =
-    (settle-three (rowsOf (st .directory)) h g (st .positions) (st .cash), settle-four (rowsOf (st .directory)) h g (st .positions) (st .cash))
-core-early (derive h g lent) st = (derive-three (rowsOf (st .directory)) h g, derive-four (rowsOf (st .directory)) h g)
+core-early (settle hs lent) st =
+    (settle-three (rowsOf (st .directory)) hs (st .positions) (st .cash), settle-four (rowsOf (st .directory)) hs (st .positions) (st .cash))
+core-early (derive hs lent) st = (derive-three (rowsOf (st .directory)) hs, derive-four (rowsOf (st .directory)) hs)
 
 success-number : (c : Call) (st : Store) → numberOf (success c st) ≡ 0
 success-number (enter x) st = refl
 success-number (move w a s q) st = refl
 success-number (pay w a m) st = refl
-success-number (settle h g lent) st = refl
-success-number (derive h g lent) st = refl
+success-number (settle hs lent) st = refl
+success-number (derive hs lent) st = refl
 
 module _ (c : Call) (st : Store) where
   lent : Says (Applies c st 3) (misfit c st)
@@ -111,8 +116,8 @@ module _ (c : Call) (st : Store) where
 
   -- behind 4 the core decides
   from-core : (n : ℕ) → List·Memᴰ n entryPlaces → Applies c st n → CoreRefused c st n
-  from-core n i (Refusals.lists m) = absurd (omega (arith, not-below 18 5 3 i))
-  from-core n i (Refusals.directory d) = absurd (omega (arith, not-below 18 5 4 i))
+  from-core n i (Refusals.lists m) = absurd (omega (arith, entry-range 3 i .0))
+  from-core n i (Refusals.directory d) = absurd (omega (arith, entry-range 4 i .0))
   from-core n i (Refusals.core p) = p
 
   call-renders : Renders (Applies c st) (deskConditions c st) places
@@ -132,8 +137,8 @@ module _ (c : Call) (st : Store) where
   unfolding desk
   ruled =
       record {
-        number = decides (numberOf (desk c st .answer)) (sym (outcome-number (lowest (deskConditions c st)))) call-renders;
-        accepted = outcome-success (lowest (deskConditions c st));
+        number = decides (numberOf (desk c st .answer)) (sym (outcome-number (firstOf (deskConditions c st)))) call-renders;
+        accepted = outcome-success (firstOf (deskConditions c st));
       }
 
 -- ---- the totals
@@ -190,9 +195,9 @@ module _ (d : Directory) (p : List ℤ) (s : ℕ) where
   units-renders =
       test units-lent (λ e3. test units-unsound (λ e4. skip {m = 5} (λ x. elim x [ ]) (test units-unknown (λ e6.
       skip {m = 7} (λ x. elim x [ ]) (skip {m = 8} (λ x. elim x [ ]) (skip {m = 9} (λ x. elim x [ ]) (skip {m = 10} (λ x. elim x [ ])
-      (skip {m = 11} (λ x. elim x [ ]) (skip {m = 12} (λ x. elim x [ ]) (skip {m = 13} (λ x. elim x [ ]) (skip {m = 14} (λ x. elim x [ ])
+      (skip {m = 11} (λ x. elim x [ ]) (skip {m = 23} (λ x. elim x [ ]) (skip {m = 12} (λ x. elim x [ ]) (skip {m = 13} (λ x. elim x [ ]) (skip {m = 14} (λ x. elim x [ ])
       (skip {m = 15} (λ x. elim x [ ]) (skip {m = 16} (λ x. elim x [ ]) (skip {m = 17} (λ x. elim x [ ]) (skip {m = 18} (λ x. elim x [ ])
-      (skip {m = 19} (λ x. elim x [ ]) (skip {m = 20} (λ x. elim x [ ]) (skip {m = 21} (λ x. elim x [ ]) (test units-beyond (λ e22. end))))))))))))))))))))
+      (skip {m = 19} (λ x. elim x [ ]) (skip {m = 20} (λ x. elim x [ ]) (skip {m = 21} (λ x. elim x [ ]) (test units-beyond (λ e22. end)))))))))))))))))))))
 
 module _ (c : List ℤ) where
   cash-lent : Says (CashTotalRefused c 3) (not (eqb (length c) cashCount))
@@ -213,9 +218,9 @@ module _ (c : List ℤ) where
   cash-renders =
       test cash-lent (λ e3. skip {m = 4} (λ x. elim x [ ]) (skip {m = 5} (λ x. elim x [ ]) (skip {m = 6} (λ x. elim x [ ])
       (skip {m = 7} (λ x. elim x [ ]) (skip {m = 8} (λ x. elim x [ ]) (skip {m = 9} (λ x. elim x [ ]) (skip {m = 10} (λ x. elim x [ ])
-      (skip {m = 11} (λ x. elim x [ ]) (skip {m = 12} (λ x. elim x [ ]) (skip {m = 13} (λ x. elim x [ ]) (skip {m = 14} (λ x. elim x [ ])
+      (skip {m = 11} (λ x. elim x [ ]) (skip {m = 23} (λ x. elim x [ ]) (skip {m = 12} (λ x. elim x [ ]) (skip {m = 13} (λ x. elim x [ ]) (skip {m = 14} (λ x. elim x [ ])
       (skip {m = 15} (λ x. elim x [ ]) (skip {m = 16} (λ x. elim x [ ]) (skip {m = 17} (λ x. elim x [ ]) (skip {m = 18} (λ x. elim x [ ])
-      (skip {m = 19} (λ x. elim x [ ]) (skip {m = 20} (λ x. elim x [ ]) (skip {m = 21} (λ x. elim x [ ]) (test cash-beyond (λ e22. end))))))))))))))))))))
+      (skip {m = 19} (λ x. elim x [ ]) (skip {m = 20} (λ x. elim x [ ]) (skip {m = 21} (λ x. elim x [ ]) (test cash-beyond (λ e22. end)))))))))))))))))))))
 
 units-number : (n : ℕ) (z : Units) → unitsNumber (securityTotalBy n z) ≡ n
 units-number zero z = refl
@@ -237,8 +242,8 @@ pub totalled : Totalled
 unfolding deskSecurityTotal deskCashTotal
 totalled =
     record {
-      units = λ d p s. decides _ (sym (units-number (lowest (unitsConditions d p s)) (participantSum (isKind (rowsOf d .accounts)) p s))) (units-renders d p s);
-      unitsSum = λ d p s. units-sum (lowest (unitsConditions d p s)) (participantSum (isKind (rowsOf d .accounts)) p s);
-      cents = λ c. decides _ (sym (cents-number (lowest (cashConditions c)) (cashSum c))) (cash-renders c);
-      centsSum = λ c. cents-sum (lowest (cashConditions c)) (cashSum c);
+      units = λ d p s. decides _ (sym (units-number (firstOf (unitsConditions d p s)) (participantSum (isKind (rowsOf d .accounts)) p s))) (units-renders d p s);
+      unitsSum = λ d p s. units-sum (firstOf (unitsConditions d p s)) (participantSum (isKind (rowsOf d .accounts)) p s);
+      cents = λ c. decides _ (sym (cents-number (firstOf (cashConditions c)) (cashSum c))) (cash-renders c);
+      centsSum = λ c. cents-sum (firstOf (cashConditions c)) (cashSum c);
     }

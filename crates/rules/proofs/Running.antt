@@ -7,10 +7,10 @@ use Prim.Native.Nat.{ℕ, zero, suc}
 use lib.IntN.{ℤ}
 use lib.Dec.{eqb}
 use lib.ListN.{length}
-use Rattle.rules.specs.Tests.{lowest}
+use Rattle.rules.specs.Tests.{firstOf}
 use Rattle.rules.specs.Entries.{sound, Sized}
 use Rattle.rules.specs.Booking.{positionCount, cashCount, payment, paid, cents, lessCents, addCents}
-use Rattle.rules.specs.Calls.{Store, Call, enter, move, pay, settle, derive, misfit, coreConditions, chainFor, changed, outcome, core, desk, emptyStore}
+use Rattle.rules.specs.Calls.{Store, Call, enter, move, pay, settle, derive, delivering, receiving, misfit, coreConditions, chainFor, changed, outcome, core, desk, emptyStore}
 use Rattle.rules.proofs.Tables.{empty-sized, empty-sound, added-sized}
 use Rattle.rules.proofs.Growth.{keeps-sound}
 use Rattle.rules.proofs.Bookings.{booked-length}
@@ -36,7 +36,7 @@ paid-length c payer payee m = go (eqb m 0)
     go false = cents-length (addCents c payer (lessCents (cents m))) payee (cents m) ∙ cents-length c payer (lessCents (cents m))
 
 -- an accepted call keeps the store ready
-changed-ready : (c : Call) (st : Store) → Ready st → lowest (coreConditions c st) ≡ 0 → Ready (changed c st)
+changed-ready : (c : Call) (st : Store) → Ready st → firstOf (coreConditions c st) ≡ 0 → Ready (changed c st)
 changed-ready (enter x) st h e =
     record {
       sized = added-sized x (st .directory) (h .sized);
@@ -53,20 +53,20 @@ changed-ready (move w a s q) st h e =
     }
 changed-ready (pay w a m) st h e =
     record { sized = h .sized; soundBooks = h .soundBooks; positions = h .positions; cash = cents-length (st .cash) a (payment w m) ∙ h .cash }
-changed-ready (settle p q lent) st h e =
+changed-ready (settle hs lent) st h e =
     record {
       sized = h .sized;
       soundBooks = h .soundBooks;
-      positions = booked-length (chainFor (settle p q lent) st) (p .security) (p .quantity) (st .positions) ∙ h .positions;
-      cash = paid-length (st .cash) (q .account) (p .account) (p .amount) ∙ h .cash;
+      positions = booked-length (chainFor (settle hs lent) st) (delivering hs .security) (delivering hs .quantity) (st .positions) ∙ h .positions;
+      cash = paid-length (st .cash) (receiving hs .account) (delivering hs .account) (delivering hs .amount) ∙ h .cash;
     }
-changed-ready (derive p q lent) st h e = h
+changed-ready (derive hs lent) st h e = h
 
 pub core-ready : (c : Call) (st : Store) → Ready st → Ready (core c st .store)
 unfolding core
-core-ready c st h = go (lowest (coreConditions c st)) refl
+core-ready c st h = go (firstOf (coreConditions c st)) refl
   where
-    go : (n : ℕ) → lowest (coreConditions c st) ≡ n → Ready (outcome n c st .store)
+    go : (n : ℕ) → firstOf (coreConditions c st) ≡ n → Ready (outcome n c st .store)
     go zero e = changed-ready c st h e
     go (suc n) e = h
 

@@ -1,11 +1,13 @@
--- The customer's three demands, proved of the definitions with no hypothesis left.
+-- The customer's three demands, and what document 02 asks to be shown, proved of the definitions with no hypothesis left.
 use Rattle.rules.specs.Demands.{Demand1, Demand2, Demand3}
+use Rattle.rules.specs.Requests.{SideInTheHalf}
 use Rattle.rules.proofs.Refusals.{desk-refuses, core-refuses, units-numbered, cents-numbered}
 use Rattle.rules.proofs.Ruling.{ruled, totalled}
 use Rattle.rules.proofs.Derivations.{derives}
 use Rattle.rules.proofs.Settlements.{books}
 use Rattle.rules.proofs.Changes.{changes}
 use Rattle.rules.proofs.Lists.{lists-balance, logs-balance}
+use Rattle.rules.proofs.SidesWritten.{side-in-the-half}
 
 pub demand1 : Demand1
 demand1 = record { desks = desk-refuses; cores = core-refuses; unitsTotals = units-numbered; cashTotals = cents-numbered }
@@ -15,3 +17,6 @@ demand2 = record { derives = derives; books = books; ruled = ruled; changes = ch
 
 pub demand3 : Demand3
 demand3 = record { lists = lists-balance; logs = logs-balance }
+
+pub ask1 : SideInTheHalf
+ask1 = side-in-the-half

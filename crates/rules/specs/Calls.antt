@@ -1,12 +1,12 @@
--- The calls of document 01: what refuses them, what they answer and leave, and a list of them run from the empty store.
+-- The calls of documents 01 and 02: what refuses them, what they answer and leave, and a list of them run from the empty store.
 use Prim.Native.Nat.{ℕ, zero, suc}
-use mathlib.Core.Bool.{Bool, true, false, not, _||_}
+use mathlib.Core.Bool.{Bool, true, false, not, _||_, cond}
 use mathlib.Core.List.{List, [], _∷_, _++_}
 use lib.IntN.{ℤ, pos}
 use lib.Dec.{ltb, eqb}
 use lib.ListN.{length, drop}
-use Rattle.rules.specs.Types.{Directory, Half, Step, Answer, Accepted, Booked, Chained, Refused, SecurityTotal, SumUnits, NoUnits, CashTotal, SumCents, NoCents}
-use Rattle.rules.specs.Tests.{Condition, _when_, lowest}
+use Rattle.rules.specs.Types.{Directory, Half, SidedHalf, Halves, Ordered, Sided, Step, Answer, Accepted, Booked, Chained, Refused, SecurityTotal, SumUnits, NoUnits, CashTotal, SumCents, NoCents}
+use Rattle.rules.specs.Tests.{Condition, _when_, firstOf}
 use Rattle.rules.specs.Directory.{rowsOf}
 use Rattle.rules.specs.Entries.{Row, rowConditions, addRow, emptyDirectory, sound}
 use Rattle.rules.specs.Lookups.{Lookups, ask}
@@ -21,13 +21,13 @@ pub record Store : Type 0 where
   pub cash : List ℤ
 
 -- A call with its operands: an entry; a bring-in or take-out of an account, a security and a quantity; a pay-in or pay-out of an
--- account and an amount; a settlement or derivation of two halves, delivering first, with the step list that it is lent.
+-- account and an amount; a settlement or derivation of two halves with the step list that it is lent.
 pub data Call : Type 0 where
   enter : Row → Call
   move : Way → ℕ → ℕ → ℕ → Call
   pay : Way → ℕ → ℕ → Call
-  settle : Half → Half → List Step → Call
-  derive : Half → Half → List Step → Call
+  settle : Halves → List Step → Call
+  derive : Halves → List Step → Call
 
 -- ---- what an answer says
 
@@ -64,6 +64,35 @@ centsNumber (NoCents n) = n
 
 -- ---- two halves
 
+-- "0 delivering"
+abbrev pub deliveringSide : ℕ
+deliveringSide = 0
+
+-- "1 receiving"
+abbrev pub receivingSide : ℕ
+receivingSide = 1
+
+-- the half that delivers: "two halves, delivering first" (01); "Desks export the two halves in either order, so the side that place implied is to be
+-- written out" (02)
+abbrev pub delivering : Halves → Half
+delivering (Ordered h g) = h
+delivering (Sided x y) = cond (eqb (x .side) deliveringSide) (x .half) (y .half)
+
+-- the other one
+abbrev pub receiving : Halves → Half
+receiving (Ordered h g) = g
+receiving (Sided x y) = cond (eqb (x .side) deliveringSide) (y .half) (x .half)
+
+-- 7 of the sides: "another byte value is 7"
+abbrev pub sideUnknown : Halves → Bool
+sideUnknown (Ordered h g) = false
+sideUnknown (Sided x y) = ltb receivingSide (x .side) || ltb receivingSide (y .side)
+
+-- 23: "two halves of the same side"
+abbrev pub sameSide : Halves → Bool
+sameSide (Ordered h g) = false
+sameSide (Sided x y) = eqb (x .side) (y .side)
+
 -- 6 of a half: its account, counterpart CSD or security "names no row"
 abbrev pub halfUnknown : Lookups → Half → Bool
 halfUnknown k h = not (k .account (h .account)) || (not (k .csd (h .counterpart)) || not (k .security (h .security)))
@@ -80,23 +109,28 @@ halvesDiffer k h g =
     || (not (eqb (h .amount) (g .amount))
     || (not (k .books (g .account) (h .counterpart)) || not (k .books (h .account) (g .counterpart)))))
 
--- 6 to 13, each over both halves: h delivers, g receives
-abbrev pub halvesConditions : Lookups → Half → Half → List Condition
-halvesConditions k h g =
+-- 6 to 13, each over both halves: h delivers, g receives. 7 and 23 are also asked of their sides; 23 comes "just before 12"
+abbrev pub bothConditions : Lookups → Half → Half → Bool → Bool → List Condition
+bothConditions k h g unknown same =
     6 when (halfUnknown k h || halfUnknown k g)
-    ∷ 7 when (halfOutOfRange h || halfOutOfRange g)
+    ∷ 7 when ((halfOutOfRange h || halfOutOfRange g) || unknown)
     ∷ 10 when (not (k .kind (h .account) 0) || not (k .kind (g .account) 0))
+    ∷ 23 when same
     ∷ 12 when halvesDiffer k h g
     ∷ 13 when eqb (h .account) (g .account)
     ∷ []
 
+-- of two halves as they are given
+abbrev pub halvesConditions : Lookups → Halves → List Condition
+halvesConditions k hs = bothConditions k (delivering hs) (receiving hs) (sideUnknown hs) (sameSide hs)
+
 -- the chain of two halves
-abbrev pub halvesChain : Lookups → Half → Half → Chain
-halvesChain k h g = chain k (h .security) (h .account) (g .account)
+abbrev pub halvesChain : Lookups → Halves → Chain
+halvesChain k hs = chain k (delivering hs .security) (delivering hs .account) (receiving hs .account)
 
 -- 6 to 18
-abbrev pub deriveConditions : Lookups → Half → Half → List Condition
-deriveConditions k h g = halvesConditions k h g ++ chainConditions (halvesChain k h g)
+abbrev pub deriveConditions : Lookups → Halves → List Condition
+deriveConditions k hs = halvesConditions k hs ++ chainConditions (halvesChain k hs)
 
 -- 20 over all steps, 21, then 22 over all changed numbers, "judged on the store before the call"
 abbrev pub bookConditions : Lookups → List ℤ → List ℤ → Half → Half → List Step → List Condition
@@ -107,8 +141,8 @@ bookConditions k p c h g steps =
     ∷ []
 
 -- 6 to 22
-abbrev pub settleConditions : Lookups → List ℤ → List ℤ → Half → Half → List Condition
-settleConditions k p c h g = deriveConditions k h g ++ bookConditions k p c h g (stepsOf (halvesChain k h g))
+abbrev pub settleConditions : Lookups → List ℤ → List ℤ → Halves → List Condition
+settleConditions k p c hs = deriveConditions k hs ++ bookConditions k p c (delivering hs) (receiving hs) (stepsOf (halvesChain k hs))
 
 -- ---- the conditions of a call
 
@@ -117,17 +151,17 @@ unfoldable pub misfit : Call → Store → Bool
 misfit (enter x) st = false
 misfit (move w a s q) st = not (eqb (length (st .positions)) positionCount)
 misfit (pay w a m) st = not (eqb (length (st .cash)) cashCount)
-misfit (settle h g lent) st =
+misfit (settle hs lent) st =
     not (eqb (length (st .positions)) positionCount) || (not (eqb (length (st .cash)) cashCount) || ltb (length lent) stepLimit)
-misfit (derive h g lent) st = ltb (length lent) stepLimit
+misfit (derive hs lent) st = ltb (length lent) stepLimit
 
 -- 5 to 22
 abbrev pub coreConditions : Call → Store → List Condition
 coreConditions (enter x) st = rowConditions (rowsOf (st .directory)) x
 coreConditions (move w a s q) st = moveConditions (ask (rowsOf (st .directory))) (st .positions) w a s q
 coreConditions (pay w a m) st = payConditions (ask (rowsOf (st .directory))) (st .cash) w a m
-coreConditions (settle h g lent) st = settleConditions (ask (rowsOf (st .directory))) (st .positions) (st .cash) h g
-coreConditions (derive h g lent) st = deriveConditions (ask (rowsOf (st .directory))) h g
+coreConditions (settle hs lent) st = settleConditions (ask (rowsOf (st .directory))) (st .positions) (st .cash) hs
+coreConditions (derive hs lent) st = deriveConditions (ask (rowsOf (st .directory))) hs
 
 -- 3 to 22: 4 is "not sound"
 abbrev pub deskConditions : Call → Store → List Condition
@@ -146,24 +180,24 @@ abbrev pub lentSteps : Call → List Step
 lentSteps (enter x) = []
 lentSteps (move w a s q) = []
 lentSteps (pay w a m) = []
-lentSteps (settle h g lent) = lent
-lentSteps (derive h g lent) = lent
+lentSteps (settle hs lent) = lent
+lentSteps (derive hs lent) = lent
 
 -- the chain that a call books or derives
 abbrev pub chainFor : Call → Store → List Step
 chainFor (enter x) st = []
 chainFor (move w a s q) st = stepsOf (moveChain (ask (rowsOf (st .directory))) w a s)
 chainFor (pay w a m) st = []
-chainFor (settle h g lent) st = stepsOf (halvesChain (ask (rowsOf (st .directory))) h g)
-chainFor (derive h g lent) st = stepsOf (halvesChain (ask (rowsOf (st .directory))) h g)
+chainFor (settle hs lent) st = stepsOf (halvesChain (ask (rowsOf (st .directory))) hs)
+chainFor (derive hs lent) st = stepsOf (halvesChain (ask (rowsOf (st .directory))) hs)
 
 -- what an accepted call answers: K is the chain's length
 abbrev pub success : Call → Store → Answer
 success (enter x) st = Accepted
 success (move w a s q) st = Accepted
 success (pay w a m) st = Accepted
-success (settle h g lent) st = Booked (length (chainFor (settle h g lent) st))
-success (derive h g lent) st = Chained (length (chainFor (derive h g lent) st))
+success (settle hs lent) st = Booked (length (chainFor (settle hs lent) st))
+success (derive hs lent) st = Chained (length (chainFor (derive hs lent) st))
 
 -- the store that an accepted call leaves
 abbrev pub changed : Call → Store → Store
@@ -171,13 +205,13 @@ changed (enter x) st = record { directory = addRow x (st .directory); positions 
 changed (move w a s q) st =
     record { directory = st .directory; positions = booked (chainFor (move w a s q) st) s q (st .positions); cash = st .cash }
 changed (pay w a m) st = record { directory = st .directory; positions = st .positions; cash = addCents (st .cash) a (payment w m) }
-changed (settle h g lent) st =
+changed (settle hs lent) st =
     record {
       directory = st .directory;
-      positions = booked (chainFor (settle h g lent) st) (h .security) (h .quantity) (st .positions);
-      cash = paid (st .cash) (g .account) (h .account) (h .amount);
+      positions = booked (chainFor (settle hs lent) st) (delivering hs .security) (delivering hs .quantity) (st .positions);
+      cash = paid (st .cash) (receiving hs .account) (delivering hs .account) (delivering hs .amount);
     }
-changed (derive h g lent) st = st
+changed (derive hs lent) st = st
 
 -- "steps go into a lent list of at least 16 steps, the rest untouched"
 abbrev pub written : List Step → List Step → List Step
@@ -188,8 +222,8 @@ abbrev pub writtenFor : Call → Store → List Step
 writtenFor (enter x) st = []
 writtenFor (move w a s q) st = []
 writtenFor (pay w a m) st = []
-writtenFor (settle h g lent) st = written (chainFor (settle h g lent) st) lent
-writtenFor (derive h g lent) st = written (chainFor (derive h g lent) st) lent
+writtenFor (settle hs lent) st = written (chainFor (settle hs lent) st) lent
+writtenFor (derive hs lent) st = written (chainFor (derive hs lent) st) lent
 
 -- by the refusal's number: "nothing lent or handed in changes"
 abbrev pub outcome : ℕ → Call → Store → Outcome
@@ -198,11 +232,11 @@ outcome (suc n) c st = record { answer = Refused (suc n); store = st; steps = le
 
 -- the call without the tests 3 and 4, for whoever knows that lists fit and the directory is sound
 unfoldable pub core : Call → Store → Outcome
-core c st = outcome (lowest (coreConditions c st)) c st
+core c st = outcome (firstOf (coreConditions c st)) c st
 
 -- the call as the desk's software makes it, on any store
 unfoldable pub desk : Call → Store → Outcome
-desk c st = outcome (lowest (deskConditions c st)) c st
+desk c st = outcome (firstOf (deskConditions c st)) c st
 
 -- ---- the totals, which change nothing
 
@@ -210,13 +244,13 @@ desk c st = outcome (lowest (deskConditions c st)) c st
 unfoldable pub deskSecurityTotal : Directory → List ℤ → ℕ → SecurityTotal
 deskSecurityTotal d p s =
     Booking.securityTotalBy
-    (lowest (3 when not (eqb (length p) positionCount) ∷ 4 when not (sound d) ∷ Booking.securityTotalConditions (ask (rowsOf d)) p s))
+    (firstOf (3 when not (eqb (length p) positionCount) ∷ 4 when not (sound d) ∷ Booking.securityTotalConditions (ask (rowsOf d)) p s))
     (Booking.participantSum (ask (rowsOf d) .kind) p s)
 
 -- the total of cash: 3, then 22
 unfoldable pub deskCashTotal : List ℤ → CashTotal
 deskCashTotal c =
-    Booking.cashTotalBy (lowest (3 when not (eqb (length c) cashCount) ∷ Booking.cashTotalConditions c)) (Booking.cashSum c)
+    Booking.cashTotalBy (firstOf (3 when not (eqb (length c) cashCount) ∷ Booking.cashTotalConditions c)) (Booking.cashSum c)
 
 -- ---- a list of calls
 

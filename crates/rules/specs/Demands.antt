@@ -8,7 +8,7 @@ use lib.IntN.{ℤ, pos, negℤ, _+ℤ_, _-ℤ_}
 use lib.Signed.{_≤ℤ_}
 use lib.Dec.{eqb}
 use lib.ListN.{length}
-use Rattle.rules.specs.Types.{Account, Pair, Directory, Half, Step, Answer, Accepted, Booked, Chained, Refused, SumUnits, SumCents}
+use Rattle.rules.specs.Types.{Account, Pair, Directory, Half, Halves, Step, Answer, Accepted, Booked, Chained, Refused, SumUnits, SumCents}
 use Rattle.rules.specs.Directory.{Rows, rowsOf, isKind, inBooks, noAccount, accountLimit, securityLimit}
 use Rattle.rules.specs.Entries.{Row, csdRow, securityRow, accountRow, pairRow, linkRow, addRow, Sized}
 use Rattle.rules.specs.Lookups.{homeOf}
@@ -16,15 +16,15 @@ use Rattle.rules.specs.Chain.{stepLimit}
 use Rattle.rules.specs.Booking.{Way, incoming, outgoing, limit, cashCount, heldIn, cashOn, sum, everyAccount, participants, participantSum, cashSum, moveStep, payment}
 use Rattle.rules.specs.Calls.{Store, Call, enter, move, pay, settle, derive, Outcome, Item, item, run, desk, core, deskSecurityTotal, deskCashTotal, success, written, lentSteps, isAccepted, numberOf, unitsNumber, centsNumber, emptyStore}
 use Rattle.rules.specs.Relations.{Is, ChainIs}
-use Rattle.rules.specs.Refusals.{places, NoneApplies, First, ParticipantOrOmnibus, Beyond, Sound, Misfits, ContraOf, Applies, UnitsTotalRefused, CashTotalRefused}
+use Rattle.rules.specs.Refusals.{beforeChain, places, NoneApplies, First, ParticipantOrOmnibus, Beyond, Sound, Misfits, ContraOf, Delivers, Applies, UnitsTotalRefused, CashTotalRefused}
 
 -- ---- Demand 1: "What it can't accept it refuses by the documents' number; directory, positions, cash and step list are then as before."
 
--- a number of document 01, or none
+-- a number of the documents, or none
 abbrev pub Numbered : ℕ → Type 0
 Numbered n = n ≢ 0 → List·Memᴰ n places
 
--- of one call with its outcome: a refusal is a number of document 01, and leaves everything as it was
+-- of one call with its outcome: a refusal is a number of the documents, and leaves everything as it was
 pub record Refuses (c : Call) (st : Store) (o : Outcome) : Type 0 where
   pub byNumber : isAccepted (o .answer) ≡ false → List·Memᴰ (numberOf (o .answer)) places
   pub storeAsBefore : isAccepted (o .answer) ≡ false → o .store ≡ st
@@ -40,13 +40,13 @@ pub record Demand1 : Type 0 where
 -- ---- Demand 2, the chain: "For two halves that nothing before 14 turns away, a derivation returns a chain exactly when document 01's T2S
 -- rules give one and its account pairs are entered, and it is that chain"
 
--- the steps are the chain of these halves
+-- the steps are the chain of the half h, which delivers, and g, which receives
 abbrev pub ChainOfHalves : Store → Half → Half → List Step → Type 0
 ChainOfHalves st h g steps = ChainIs (rowsOf (st .directory)) (h .security) (h .account) (g .account) steps
 
 -- "nothing before 14 turns away"
-abbrev pub Admitted : Store → Half → Half → List Step → Type 0
-Admitted st h g lent = (n : ℕ) → n < 14 → Applies (derive h g lent) st n → ⊥
+abbrev pub Admitted : Store → Halves → List Step → Type 0
+Admitted st hs lent = (n : ℕ) → List·Memᴰ n beforeChain → Applies (derive hs lent) st n → ⊥
 
 -- a call has answered this chain, and written it to the step list that it was lent
 pub record Returns (o : Outcome) (answer : Answer) (steps lent : List Step) : Type 0 where
@@ -54,12 +54,15 @@ pub record Returns (o : Outcome) (answer : Answer) (steps lent : List Step) : Ty
   pub writes : o .steps ≡ written steps lent
   pub few : length steps ≤ stepLimit
 
--- a chain is answered exactly when the relation gives one, and it is that one
-pub record Derives (st : Store) (h g : Half) (lent : List Step) : Type 0 where
-  pub whenGiven : (steps : List Step) → ChainOfHalves st h g steps → Returns (desk (derive h g lent) st) (Chained (length steps)) steps lent
-  pub onlyThen : (k : ℕ) → desk (derive h g lent) st .answer ≡ Chained k
-      → (steps : List Step) × ChainOfHalves st h g steps × (k ≡ length steps) × Returns (desk (derive h g lent) st) (Chained k) steps lent
-  pub one : (xs ys : List Step) → ChainOfHalves st h g xs → ChainOfHalves st h g ys → xs ≡ ys
+-- a chain is answered exactly when the relation gives one, and it is that one; one of the halves delivers and the other receives
+pub record Derives (st : Store) (hs : Halves) (lent : List Step) : Type 0 where
+  pub delivering : Half
+  pub receiving : Half
+  pub sides : Delivers hs delivering receiving
+  pub whenGiven : (steps : List Step) → ChainOfHalves st delivering receiving steps → Returns (desk (derive hs lent) st) (Chained (length steps)) steps lent
+  pub onlyThen : (k : ℕ) → desk (derive hs lent) st .answer ≡ Chained k
+      → (steps : List Step) × ChainOfHalves st delivering receiving steps × (k ≡ length steps) × Returns (desk (derive hs lent) st) (Chained k) steps lent
+  pub one : (xs ys : List Step) → ChainOfHalves st delivering receiving xs → ChainOfHalves st delivering receiving ys → xs ≡ ys
 
 -- ---- Demand 2, booking: "A pair is booked exactly when its halves agree on two participant accounts, it has a chain with every account
 -- pair entered, and holdings, cash and limits allow; all accounts then hold what the rules say."
@@ -113,26 +116,27 @@ pub record Allowed (st : Store) (h g : Half) (steps : List Step) : Type 0 where
   pub payerLimit : h .amount ≢ 0 → Within (cashOn (st .cash) (g .account) -ℤ pos (h .amount))
   pub payeeLimit : h .amount ≢ 0 → Within (cashOn (st .cash) (h .account) +ℤ pos (h .amount))
 
--- everything that a booking needs
-pub record Bookable (st : Store) (h g : Half) (lent steps : List Step) : Type 0 where
-  pub fits : Misfits st (settle h g lent) → ⊥
+-- everything that a booking needs; h delivers, g receives
+pub record Bookable (st : Store) (hs : Halves) (lent : List Step) (h g : Half) (steps : List Step) : Type 0 where
+  pub fits : Misfits st (settle hs lent) → ⊥
   pub soundBooks : Sound (st .directory)
+  pub sides : Delivers hs h g
   pub agree : Agree (rowsOf (st .directory)) h g
   pub chain : ChainOfHalves st h g steps
   pub allowed : Allowed st h g steps
 
 -- a booked pair: its answer, its own chain, and every position and balance
-pub record BookedPair (st : Store) (h g : Half) (lent steps : List Step) : Type 0 where
-  pub returns : Returns (desk (settle h g lent) st) (Booked (length steps)) steps lent
-  pub directory : desk (settle h g lent) st .store .directory ≡ st .directory
-  pub positions : MovedUnits steps (h .security) (h .quantity) (st .positions) (desk (settle h g lent) st .store .positions)
-  pub cash : MovedCents (g .account) (h .account) (h .amount) (st .cash) (desk (settle h g lent) st .store .cash)
+pub record BookedPair (st : Store) (hs : Halves) (lent : List Step) (h g : Half) (steps : List Step) : Type 0 where
+  pub returns : Returns (desk (settle hs lent) st) (Booked (length steps)) steps lent
+  pub directory : desk (settle hs lent) st .store .directory ≡ st .directory
+  pub positions : MovedUnits steps (h .security) (h .quantity) (st .positions) (desk (settle hs lent) st .store .positions)
+  pub cash : MovedCents (g .account) (h .account) (h .amount) (st .cash) (desk (settle hs lent) st .store .cash)
 
 -- booked exactly when bookable
-pub record Books (st : Store) (h g : Half) (lent : List Step) : Type 0 where
-  pub whenBookable : (steps : List Step) → Bookable st h g lent steps → BookedPair st h g lent steps
-  pub onlyThen : (k : ℕ) → desk (settle h g lent) st .answer ≡ Booked k
-      → (steps : List Step) × Bookable st h g lent steps × (k ≡ length steps) × BookedPair st h g lent steps
+pub record Books (st : Store) (hs : Halves) (lent : List Step) : Type 0 where
+  pub whenBookable : (h g : Half) (steps : List Step) → Bookable st hs lent h g steps → BookedPair st hs lent h g steps
+  pub onlyThen : (k : ℕ) → desk (settle hs lent) st .answer ≡ Booked k
+      → (h g : Half) × (steps : List Step) × Bookable st hs lent h g steps × (k ≡ length steps) × BookedPair st hs lent h g steps
 
 -- ---- Demand 2, every call: "accepted exactly when no number applies, and then changes what the document says and no more"
 
@@ -187,13 +191,13 @@ Changes (pay w a m) st st′ =
     × (st′ .positions ≡ st .positions)
     × (cashOn (st′ .cash) a ≡ cashOn (st .cash) a +ℤ payment w m .0)
     × ((b : ℕ) → b ≢ a → cashOn (st′ .cash) b ≡ cashOn (st .cash) b)
-Changes (settle h g lent) st st′ = (steps : List Step) × BookedPair st h g lent steps
-Changes (derive h g lent) st st′ = st′ ≡ st
+Changes (settle hs lent) st st′ = (h g : Half) × (steps : List Step) × Delivers hs h g × BookedPair st hs lent h g steps
+Changes (derive hs lent) st st′ = st′ ≡ st
 
 -- for every store, halves, step list and call
 pub record Demand2 : Type 0 where
-  pub derives : (st : Store) (h g : Half) (lent : List Step) → Admitted st h g lent → Derives st h g lent
-  pub books : (st : Store) (h g : Half) (lent : List Step) → Books st h g lent
+  pub derives : (st : Store) (hs : Halves) (lent : List Step) → Admitted st hs lent → Derives st hs lent
+  pub books : (st : Store) (hs : Halves) (lent : List Step) → Books st hs lent
   pub ruled : (c : Call) (st : Store) → Ruled c st
   pub changes : (c : Call) (st : Store) → isAccepted (desk c st .answer) ≡ true → Changes c st (desk c st .store)
   pub totals : Totalled
@@ -206,8 +210,8 @@ abbrev pub grown : Call → Rows → Rows
 grown (enter x) r = withRow x r
 grown (move w a s q) r = r
 grown (pay w a m) r = r
-grown (settle h g lent) r = r
-grown (derive h g lent) r = r
+grown (settle hs lent) r = r
+grown (derive hs lent) r = r
 
 -- "the directory that the accepted calls before it make by the rules"; the newest item stands first. An account's number is the count
 -- of account entries accepted before it
@@ -225,8 +229,8 @@ abbrev pub brings : Call → ℕ → ℤ
 brings (enter x) s = pos 0
 brings (move w a t q) s = cond (eqb t s) (signed w q) (pos 0)
 brings (pay w a m) s = pos 0
-brings (settle h g lent) s = pos 0
-brings (derive h g lent) s = pos 0
+brings (settle hs lent) s = pos 0
+brings (derive hs lent) s = pos 0
 
 -- brought in less taken out, over a list of items
 unfoldable pub brought : List Item → ℕ → ℤ
@@ -238,8 +242,8 @@ abbrev pub pays : Call → ℤ
 pays (enter x) = pos 0
 pays (move w a t q) = pos 0
 pays (pay w a m) = signed w m
-pays (settle h g lent) = pos 0
-pays (derive h g lent) = pos 0
+pays (settle hs lent) = pos 0
+pays (derive hs lent) = pos 0
 
 -- paid in less paid out, over a list of items
 unfoldable pub paidIn : List Item → ℤ
@@ -258,18 +262,21 @@ pub record Unchanged (i : Item) : Type 0 where
 
 -- "each booked settlement moved exactly its chain and its amount and nothing else": the chain is the one that document 01 gives over the
 -- directory r
-pub record Settled (r : Rows) (h g : Half) (i : Item) : Type 0 where
+pub record Settled (r : Rows) (hs : Halves) (i : Item) : Type 0 where
+  pub delivering : Half
+  pub receiving : Half
+  pub sides : Delivers hs delivering receiving
   pub steps : List Step
-  pub chain : ChainIs r (h .security) (h .account) (g .account) steps
-  pub units : MovedUnits steps (h .security) (h .quantity) (i .positions) (i .positionsLeft)
-  pub cents : MovedCents (g .account) (h .account) (h .amount) (i .cash) (i .cashLeft)
+  pub chain : ChainIs r (delivering .security) (delivering .account) (receiving .account) steps
+  pub units : MovedUnits steps (delivering .security) (delivering .quantity) (i .positions) (i .positionsLeft)
+  pub cents : MovedCents (receiving .account) (delivering .account) (delivering .amount) (i .cash) (i .cashLeft)
 
 -- a settlement moved its chain where it was booked, and nothing otherwise
-abbrev pub settledBy : Answer → Rows → Half → Half → Item → Type 0
-settledBy (Booked k) r h g i = Settled r h g i
-settledBy Accepted r h g i = Unchanged i
-settledBy (Chained k) r h g i = Unchanged i
-settledBy (Refused n) r h g i = Unchanged i
+abbrev pub settledBy : Answer → Rows → Halves → Item → Type 0
+settledBy (Booked k) r hs i = Settled r hs i
+settledBy Accepted r hs i = Unchanged i
+settledBy (Chained k) r hs i = Unchanged i
+settledBy (Refused n) r hs i = Unchanged i
 
 -- an accepted bring-in, take-out, pay-in or pay-out is bound by the balances below
 abbrev pub unlessAccepted : Bool → Item → Type 0
@@ -281,8 +288,8 @@ abbrev pub Changed : Call → Rows → Item → Type 0
 Changed (enter x) r i = Unchanged i
 Changed (move w a s q) r i = unlessAccepted (isAccepted (i .answer)) i
 Changed (pay w a m) r i = unlessAccepted (isAccepted (i .answer)) i
-Changed (settle h g lent) r i = settledBy (i .answer) r h g i
-Changed (derive h g lent) r i = Unchanged i
+Changed (settle hs lent) r i = settledBy (i .answer) r hs i
+Changed (derive hs lent) r i = Unchanged i
 
 -- of every item, over the directory that the items before it make
 abbrev pub EachChanged : List Item → Type 0

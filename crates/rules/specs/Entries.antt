@@ -6,7 +6,7 @@ use mathlib.Core.List.{List, [], _∷_}
 use lib.ListN.{length, set, replicate}
 use lib.Dec.{ltb, leb, eqb}
 use Rattle.rules.specs.Types.{Csd, Security, Account, Pair, Link, CsdTable, SecurityTable, AccountTable, PairTable, LinkTable, Directory}
-use Rattle.rules.specs.Tests.{eachAfter, isFull, Condition, _when_, lowest}
+use Rattle.rules.specs.Tests.{eachAfter, isFull, Condition, _when_, firstOf}
 use Rattle.rules.specs.Identifiers.{isBic, isIsin, isinChecks}
 use Rattle.rules.specs.Directory.{Rows, rowsOf, csdLimit, securityLimit, accountLimit, pairLimit, linkLimit, noCsd, noAccount, bicEntered, isinEntered}
 use Rattle.rules.specs.Lookups.{Lookups, isAccountOf, ask}
@@ -23,7 +23,7 @@ csdConditions full entered x =
 
 -- the refusal of a CSD, 0 for none
 unfoldable pub csdRefusal : List Csd → Csd → ℕ
-csdRefusal cs x = lowest (csdConditions (isFull csdLimit cs) (bicEntered cs) x)
+csdRefusal cs x = firstOf (csdConditions (isFull csdLimit cs) (bicEntered cs) x)
 
 -- ---- 02: a security
 
@@ -38,7 +38,7 @@ securityConditions full entered x =
 
 -- the refusal of a security, 0 for none
 unfoldable pub securityRefusal : List Security → Security → ℕ
-securityRefusal ss x = lowest (securityConditions (isFull securityLimit ss) (isinEntered ss) x)
+securityRefusal ss x = firstOf (securityConditions (isFull securityLimit ss) (isinEntered ss) x)
 
 -- ---- 03: an account, "a CSD in T2S; kind 0" to 4
 
@@ -57,7 +57,7 @@ besideAccounts cs acc = ask (record { csds = cs; securities = []; accounts = acc
 
 -- the refusal of an account, 0 for none
 unfoldable pub accountRefusal : List Csd → List Account → Account → ℕ
-accountRefusal cs acc x = lowest (accountConditions (besideAccounts cs acc) x)
+accountRefusal cs acc x = firstOf (accountConditions (besideAccounts cs acc) x)
 
 -- ---- 04: a pair
 
@@ -92,7 +92,7 @@ besidePairs cs acc ps = ask (record { csds = cs; securities = []; accounts = acc
 
 -- the refusal of a pair, 0 for none
 unfoldable pub pairRefusal : List Csd → List Account → List Pair → Pair → ℕ
-pairRefusal cs acc ps x = lowest (pairConditions (besidePairs cs acc ps) x)
+pairRefusal cs acc ps x = firstOf (pairConditions (besidePairs cs acc ps) x)
 
 -- ---- 05: a link
 
@@ -156,7 +156,7 @@ besideLinks cs ss acc ls = ask (record { csds = cs; securities = ss; accounts = 
 
 -- the refusal of a link, 0 for none
 unfoldable pub linkRefusal : List Csd → List Security → List Account → List Link → Link → ℕ
-linkRefusal cs ss acc ls x = lowest (linkConditions (besideLinks cs ss acc ls) x)
+linkRefusal cs ss acc ls x = firstOf (linkConditions (besideLinks cs ss acc ls) x)
 
 -- ---- the five entries
 

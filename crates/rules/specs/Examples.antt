@@ -6,7 +6,7 @@ use mathlib.Core.List.{List, [], _∷_, _++_, map}
 use lib.IntN.{ℤ, pos, negsuc}
 use lib.Dec.{leb}
 use lib.ListN.{length}
-use Rattle.rules.specs.Types.{Csd, Account, Pair, Link, Step, Half, Answer, Accepted, Booked}
+use Rattle.rules.specs.Types.{Csd, Account, Pair, Link, Step, Half, Ordered, Answer, Accepted, Booked}
 use Rattle.rules.specs.Identifiers.{isinSum, isinChecks, isinSumLeft}
 use Rattle.rules.specs.Directory.{Rows, noCsd, noAccount}
 use Rattle.rules.specs.Entries.{csdRow, securityRow, accountRow, pairRow, linkRow, soundRows}
@@ -172,7 +172,7 @@ sampleCalls =
     ∷ enter (linkRow (record { security = 0; kind = 0; csd = 1; technical = noCsd; flag = 1; account = 3 }))
     ∷ enter (linkRow (record { security = 0; kind = 1; csd = 0; technical = 1; flag = 1; account = noAccount }))
     ∷ move incoming 4 0 100
-    ∷ settle (half 4 0) (half 0 1) programSteps
+    ∷ settle (Ordered (half 4 0) (half 0 1)) programSteps
     ∷ []
 
 -- the answers, newest first: `booked 2` and twelve times `ok`

@@ -3,7 +3,7 @@ use Prim.Native.Nat.{ℕ}
 use mathlib.Core.Path.{_≡_}
 use mathlib.Core.List.{List, [], _∷_}
 use lib.IntN.{ℤ}
-use Rattle.rules.specs.Types.{Half, Step, Answer, Entered, Reply}
+use Rattle.rules.specs.Types.{Halves, Step, Answer, Entered, Reply}
 use Rattle.rules.specs.Entries.{Row}
 use Rattle.rules.specs.Booking.{Way}
 use Rattle.rules.specs.Calls.{Store, Call, enter, move, pay, settle, derive, Item, item, emptyStore}
@@ -22,19 +22,19 @@ pub data Made (st : Store) : Call → Answer → Store → Type 0 where
   -- pay_in, pay_out
   paid : (w : Way) (a m : ℕ) (r : Answer) (c : List ℤ) → (r ≡ paymentOn (st .directory) (st .cash) w a m .answer) × (c ≡ paymentOn (st .directory) (st .cash) w a m .store .cash)
       → Made st (pay w a m) r (holding (st .directory) (st .positions) c)
-  -- settle
-  settled : (h g : Half) (lent : List Step) (r : Answer) (p c : List ℤ) (steps : List Step) → (r ≡ settlementOn (st .directory) (st .positions) (st .cash) lent h g .answer)
-      × (p ≡ settlementOn (st .directory) (st .positions) (st .cash) lent h g .store .positions) × (c ≡ settlementOn (st .directory) (st .positions) (st .cash) lent h g .store .cash)
-      × (steps ≡ settlementOn (st .directory) (st .positions) (st .cash) lent h g .steps) → Made st (settle h g lent) r (holding (st .directory) p c)
-  -- settle_reply, which is told how many steps are lent; settle_by_value with 16
-  settledByValue : (n : ℕ) (h g : Half) (r : Reply) (p c : List ℤ) → (r ≡ replyOf (settlementOn (st .directory) (st .positions) (st .cash) (blanks n) h g))
-      × (p ≡ settlementOn (st .directory) (st .positions) (st .cash) (blanks n) h g .store .positions)
-      × (c ≡ settlementOn (st .directory) (st .positions) (st .cash) (blanks n) h g .store .cash) → Made st (settle h g (blanks n)) (r .answer) (holding (st .directory) p c)
-  -- derive
-  derived : (h g : Half) (lent : List Step) (r : Answer) (steps : List Step) → (r ≡ derivationOn (st .directory) lent h g .answer) × (steps ≡ derivationOn (st .directory) lent h g .steps)
-      → Made st (derive h g lent) r st
-  -- derive_reply, derive_by_value
-  derivedByValue : (n : ℕ) (h g : Half) (r : Reply) → r ≡ replyOf (derivationOn (st .directory) (blanks n) h g) → Made st (derive h g (blanks n)) (r .answer) st
+  -- settle, settle_sided
+  settled : (hs : Halves) (lent : List Step) (r : Answer) (p c : List ℤ) (steps : List Step) → (r ≡ settlementOn (st .directory) (st .positions) (st .cash) lent hs .answer)
+      × (p ≡ settlementOn (st .directory) (st .positions) (st .cash) lent hs .store .positions) × (c ≡ settlementOn (st .directory) (st .positions) (st .cash) lent hs .store .cash)
+      × (steps ≡ settlementOn (st .directory) (st .positions) (st .cash) lent hs .steps) → Made st (settle hs lent) r (holding (st .directory) p c)
+  -- settle_reply, settle_sided_reply, which are told how many steps are lent; settle_by_value with 16
+  settledByValue : (n : ℕ) (hs : Halves) (r : Reply) (p c : List ℤ) → (r ≡ replyOf (settlementOn (st .directory) (st .positions) (st .cash) (blanks n) hs))
+      × (p ≡ settlementOn (st .directory) (st .positions) (st .cash) (blanks n) hs .store .positions)
+      × (c ≡ settlementOn (st .directory) (st .positions) (st .cash) (blanks n) hs .store .cash) → Made st (settle hs (blanks n)) (r .answer) (holding (st .directory) p c)
+  -- derive, derive_sided
+  derived : (hs : Halves) (lent : List Step) (r : Answer) (steps : List Step) → (r ≡ derivationOn (st .directory) lent hs .answer) × (steps ≡ derivationOn (st .directory) lent hs .steps)
+      → Made st (derive hs lent) r st
+  -- derive_reply, derive_sided_reply, derive_by_value
+  derivedByValue : (n : ℕ) (hs : Halves) (r : Reply) → r ≡ replyOf (derivationOn (st .directory) (blanks n) hs) → Made st (derive hs (blanks n)) (r .answer) st
 
 -- "Each call is handed the directory that the last one returned and the positions and cash that it left"
 pub data DeskLog : List Item → Store → Type 0 where

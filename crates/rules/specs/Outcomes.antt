@@ -4,7 +4,7 @@ use Prim.Native.Nat.{ℕ}
 use mathlib.Core.List.{List, []}
 use lib.IntN.{ℤ}
 use lib.ListN.{length, replicate, take}
-use Rattle.rules.specs.Types.{Directory, Half, Step, Steps, Reply, Entered}
+use Rattle.rules.specs.Types.{Directory, Halves, Step, Steps, Reply, Entered}
 use Rattle.rules.specs.Entries.{Row}
 use Rattle.rules.specs.Chain.{step, stepLimit}
 use Rattle.rules.specs.Booking.{Way}
@@ -26,13 +26,13 @@ movementOn d p w a s q = desk (move w a s q) (holding d p [])
 abbrev pub paymentOn : Directory → List ℤ → Way → ℕ → ℕ → Outcome
 paymentOn d c w a m = desk (pay w a m) (holding d [] c)
 
--- a settlement that is lent positions, cash and steps; the first half delivers
-abbrev pub settlementOn : Directory → List ℤ → List ℤ → List Step → Half → Half → Outcome
-settlementOn d p c lent h g = desk (settle h g lent) (holding d p c)
+-- a settlement of two halves that is lent positions, cash and steps
+abbrev pub settlementOn : Directory → List ℤ → List ℤ → List Step → Halves → Outcome
+settlementOn d p c lent hs = desk (settle hs lent) (holding d p c)
 
 -- a derivation that is lent steps
-abbrev pub derivationOn : Directory → List Step → Half → Half → Outcome
-derivationOn d lent h g = desk (derive h g lent) (holding d [] [])
+abbrev pub derivationOn : Directory → List Step → Halves → Outcome
+derivationOn d lent hs = desk (derive hs lent) (holding d [] [])
 
 -- what an entry answers, and the directory after it
 abbrev pub enteredOn : Directory → Row → Entered

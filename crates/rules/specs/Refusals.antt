@@ -1,4 +1,4 @@
--- What refuses a call, in document 01's words: for each call and each number of 'Refusals by place' a constructor for every way in which the
+-- What refuses a call, in the documents' words: for each call and each number of 'Refusals by place' a constructor for every way in which the
 -- number applies. Nothing is computed here; demand 2 says that the conditions of Entries, Booking and Calls hold exactly where these do.
 use mathlib.Core.Path.{_≡_}
 use mathlib.Core.Logic.{_≢_, _⊎_}
@@ -7,21 +7,25 @@ use Prim.Native.Nat.{ℕ, _+_, _*_, _≤_, _<_}
 use lib.IntN.{ℤ, pos, negℤ, _+ℤ_, _-ℤ_}
 use lib.Signed.{_<ℤ_}
 use lib.ListN.{length, take}
-use Rattle.rules.specs.Types.{Csd, Security, Account, Pair, Link, Directory, Half, Step, WalkEnd, Inside, Outside, NoLink, Join}
+use Rattle.rules.specs.Types.{Csd, Security, Account, Pair, Link, Directory, Half, SidedHalf, Halves, Ordered, Sided, Step, WalkEnd, Inside, Outside, NoLink, Join}
 use Rattle.rules.specs.Identifiers.{byteAt}
 use Rattle.rules.specs.Directory.{Rows, rowsOf, csdLimit, securityLimit, accountLimit, pairLimit, linkLimit, noCsd, noAccount}
 use Rattle.rules.specs.Lookups.{homeOf}
 use Rattle.rules.specs.Entries.{Row, csdRow, securityRow, accountRow, pairRow, linkRow}
 use Rattle.rules.specs.Chain.{stepLimit}
 use Rattle.rules.specs.Booking.{Way, outgoing, limit, positionCount, cashCount, heldIn, cashOn, moveStep, payment}
-use Rattle.rules.specs.Calls.{Store, Call, enter, move, pay, settle, derive}
+use Rattle.rules.specs.Calls.{Store, Call, enter, move, pay, settle, derive, deliveringSide, receivingSide}
 use Rattle.rules.specs.Relations.{Is, External, InT2S, IssuerOf, DefaultOf, LinkTo, NoIssuer, DefaultWalk, NoMeeting, NoDirected, Joins, ChainIs}
 
 -- ---- the numbers
 
+-- the numbers before 14; 23 stands "just before 12"
+abbrev pub beforeChain : List ℕ
+beforeChain = 3 ∷ 4 ∷ 5 ∷ 6 ∷ 7 ∷ 8 ∷ 9 ∷ 10 ∷ 11 ∷ 23 ∷ 12 ∷ 13 ∷ []
+
 -- "Refusals by place": the numbers in the order of their places
 abbrev pub places : List ℕ
-places = 3 ∷ 4 ∷ 5 ∷ 6 ∷ 7 ∷ 8 ∷ 9 ∷ 10 ∷ 11 ∷ 12 ∷ 13 ∷ 14 ∷ 15 ∷ 16 ∷ 17 ∷ 18 ∷ 19 ∷ 20 ∷ 21 ∷ 22 ∷ []
+places = beforeChain ++ (14 ∷ 15 ∷ 16 ∷ 17 ∷ 18 ∷ 19 ∷ 20 ∷ 21 ∷ 22 ∷ [])
 
 -- none of them applies
 abbrev pub NoneApplies : (ℕ → Type 0) → Type 0
@@ -199,10 +203,10 @@ pub record Sound (d : Directory) : Type 0 where
 pub data Misfits (st : Store) : Call → Type 0 where
   movePositions : {w : Way} {a s q : ℕ} → length (st .positions) ≢ positionCount → Misfits st (move w a s q)
   payCash : {w : Way} {a m : ℕ} → length (st .cash) ≢ cashCount → Misfits st (pay w a m)
-  settlePositions : {h g : Half} {lent : List Step} → length (st .positions) ≢ positionCount → Misfits st (settle h g lent)
-  settleCash : {h g : Half} {lent : List Step} → length (st .cash) ≢ cashCount → Misfits st (settle h g lent)
-  settleSteps : {h g : Half} {lent : List Step} → length lent < stepLimit → Misfits st (settle h g lent)
-  deriveSteps : {h g : Half} {lent : List Step} → length lent < stepLimit → Misfits st (derive h g lent)
+  settlePositions : {hs : Halves} {lent : List Step} → length (st .positions) ≢ positionCount → Misfits st (settle hs lent)
+  settleCash : {hs : Halves} {lent : List Step} → length (st .cash) ≢ cashCount → Misfits st (settle hs lent)
+  settleSteps : {hs : Halves} {lent : List Step} → length lent < stepLimit → Misfits st (settle hs lent)
+  deriveSteps : {hs : Halves} {lent : List Step} → length lent < stepLimit → Misfits st (derive hs lent)
 
 -- ---- 06 to 09
 
@@ -247,7 +251,21 @@ pub data PayRefused (r : Rows) (c : List ℤ) (w : Way) (a m : ℕ) : ℕ → Ty
   payShort : w ≡ outgoing → cashOn c a <ℤ pos m → PayRefused r c w a m 21
   payBeyond : Beyond (cashOn c a +ℤ payment w m .0) → PayRefused r c w a m 22
 
--- ---- 0A and 0B
+-- ---- 0A to 0D
+
+-- which half delivers and which receives: "two halves, delivering first" (01); "one byte before each half: 0 delivering, 1 receiving", "in either
+-- order" (02)
+pub data Delivers : Halves → Half → Half → Type 0 where
+  byPlace : {h g : Half} → Delivers (Ordered h g) h g
+  firstDelivers : {x y : SidedHalf} → x .side ≡ deliveringSide → y .side ≡ receivingSide → Delivers (Sided x y) (x .half) (y .half)
+  secondDelivers : {x y : SidedHalf} → x .side ≡ receivingSide → y .side ≡ deliveringSide → Delivers (Sided x y) (y .half) (x .half)
+
+-- one of the two halves, whatever its side
+pub data Among : Half → Halves → Type 0 where
+  first : {h g : Half} → Among h (Ordered h g)
+  second : {h g : Half} → Among g (Ordered h g)
+  sidedFirst : {x y : SidedHalf} → Among (x .half) (Sided x y)
+  sidedSecond : {x y : SidedHalf} → Among (y .half) (Sided x y)
 
 -- one half: 6, 7 and 10
 pub data HalfRefused (r : Rows) (h : Half) : ℕ → Type 0 where
@@ -259,16 +277,26 @@ pub data HalfRefused (r : Rows) (h : Half) : ℕ → Type 0 where
   halfAmount : limit < h .amount → HalfRefused r h 7
   halfKind : (y : Account) → Is (r .accounts) (h .account) y → y .kind ≢ 0 → HalfRefused r h 10
 
--- both: "security, quantity, amount differ, or a counterpart isn't the other's CSD"; "both accounts the same"
-pub data HalvesRefused (r : Rows) (h g : Half) : ℕ → Type 0 where
-  delivering : {n : ℕ} → HalfRefused r h n → HalvesRefused r h g n
-  receiving : {n : ℕ} → HalfRefused r g n → HalvesRefused r h g n
-  securities : h .security ≢ g .security → HalvesRefused r h g 12
-  quantities : h .quantity ≢ g .quantity → HalvesRefused r h g 12
-  amounts : h .amount ≢ g .amount → HalvesRefused r h g 12
-  receiverCsd : (y : Account) → Is (r .accounts) (g .account) y → y .csd ≢ h .counterpart → HalvesRefused r h g 12
-  delivererCsd : (y : Account) → Is (r .accounts) (h .account) y → y .csd ≢ g .counterpart → HalvesRefused r h g 12
-  sameAccount : h .account ≡ g .account → HalvesRefused r h g 13
+-- the side bytes: "It refuses with 23 .. two halves of the same side; another byte value is 7."
+pub data SidesRefused : Halves → ℕ → Type 0 where
+  firstSide : {x y : SidedHalf} → x .side ≢ deliveringSide → x .side ≢ receivingSide → SidesRefused (Sided x y) 7
+  secondSide : {x y : SidedHalf} → y .side ≢ deliveringSide → y .side ≢ receivingSide → SidesRefused (Sided x y) 7
+  oneSide : {x y : SidedHalf} → x .side ≡ y .side → SidesRefused (Sided x y) 23
+
+-- h delivers, g receives: "security, quantity, amount differ, or a counterpart isn't the other's CSD"; "both accounts the same"
+pub data BothRefused (r : Rows) (h g : Half) : ℕ → Type 0 where
+  securities : h .security ≢ g .security → BothRefused r h g 12
+  quantities : h .quantity ≢ g .quantity → BothRefused r h g 12
+  amounts : h .amount ≢ g .amount → BothRefused r h g 12
+  receiverCsd : (y : Account) → Is (r .accounts) (g .account) y → y .csd ≢ h .counterpart → BothRefused r h g 12
+  delivererCsd : (y : Account) → Is (r .accounts) (h .account) y → y .csd ≢ g .counterpart → BothRefused r h g 12
+  sameAccount : h .account ≡ g .account → BothRefused r h g 13
+
+-- 6 to 13
+pub data HalvesRefused (r : Rows) (hs : Halves) : ℕ → Type 0 where
+  each : {n : ℕ} (h : Half) → Among h hs → HalfRefused r h n → HalvesRefused r hs n
+  sides : {n : ℕ} → SidesRefused hs n → HalvesRefused r hs n
+  both : {n : ℕ} (h g : Half) → Delivers hs h g → BothRefused r h g n → HalvesRefused r hs n
 
 -- the chain's cases 1 to 3 give none
 pub record Unjoined (r : Rows) (s D R : ℕ) : Type 0 where
@@ -300,19 +328,24 @@ pub data ChainRefused (r : Rows) (s D R : ℕ) : ℕ → Type 0 where
   downUnpaired : (j : Join) (up down : List ℕ) → Joins (r .csds) (r .links) s D R j up down → Unpaired (r .pairs) down → ChainRefused r s D R 18
 
 -- a derivation
-pub data DeriveRefused (r : Rows) (h g : Half) : ℕ → Type 0 where
-  halves : {n : ℕ} → HalvesRefused r h g n → DeriveRefused r h g n
-  chain : {n : ℕ} → ChainRefused r (h .security) (homeOf (r .accounts) (h .account)) (homeOf (r .accounts) (g .account)) n → DeriveRefused r h g n
+pub data DeriveRefused (r : Rows) (hs : Halves) : ℕ → Type 0 where
+  halves : {n : ℕ} → HalvesRefused r hs n → DeriveRefused r hs n
+  chain : {n : ℕ} (h g : Half) → Delivers hs h g → ChainRefused r (h .security) (homeOf (r .accounts) (h .account)) (homeOf (r .accounts) (g .account)) n
+      → DeriveRefused r hs n
 
--- a settlement, "judged on the store before the call"; "amount 0 touches none"
-pub data SettleRefused (r : Rows) (p c : List ℤ) (h g : Half) : ℕ → Type 0 where
-  derivation : {n : ℕ} → DeriveRefused r h g n → SettleRefused r p c h g n
+-- the booking of h, which delivers, and g, which receives, "judged on the store before the call"; "amount 0 touches none"
+pub data BookRefused (r : Rows) (p c : List ℤ) (h g : Half) : ℕ → Type 0 where
   securitiesShort : (steps : List Step) (x : Step) → ChainIs r (h .security) (h .account) (g .account) steps → List·Memᴰ x steps
-      → Short (r .accounts) p (h .security) (h .quantity) x → SettleRefused r p c h g 20
-  cashShort : h .amount ≢ 0 → cashOn c (g .account) <ℤ pos (h .amount) → SettleRefused r p c h g 21
-  securitiesBeyond : (steps : List Step) (x : Step) → ChainIs r (h .security) (h .account) (g .account) steps → List·Memᴰ x steps → Exceeds p (h .security) (h .quantity) x → SettleRefused r p c h g 22
-  payerBeyond : h .amount ≢ 0 → Beyond (cashOn c (g .account) -ℤ pos (h .amount)) → SettleRefused r p c h g 22
-  payeeBeyond : h .amount ≢ 0 → Beyond (cashOn c (h .account) +ℤ pos (h .amount)) → SettleRefused r p c h g 22
+      → Short (r .accounts) p (h .security) (h .quantity) x → BookRefused r p c h g 20
+  cashShort : h .amount ≢ 0 → cashOn c (g .account) <ℤ pos (h .amount) → BookRefused r p c h g 21
+  securitiesBeyond : (steps : List Step) (x : Step) → ChainIs r (h .security) (h .account) (g .account) steps → List·Memᴰ x steps → Exceeds p (h .security) (h .quantity) x → BookRefused r p c h g 22
+  payerBeyond : h .amount ≢ 0 → Beyond (cashOn c (g .account) -ℤ pos (h .amount)) → BookRefused r p c h g 22
+  payeeBeyond : h .amount ≢ 0 → Beyond (cashOn c (h .account) +ℤ pos (h .amount)) → BookRefused r p c h g 22
+
+-- a settlement
+pub data SettleRefused (r : Rows) (p c : List ℤ) (hs : Halves) : ℕ → Type 0 where
+  derivation : {n : ℕ} → DeriveRefused r hs n → SettleRefused r p c hs n
+  booking : {n : ℕ} (h g : Half) → Delivers hs h g → BookRefused r p c h g n → SettleRefused r p c hs n
 
 -- ---- any call
 
@@ -321,8 +354,8 @@ abbrev pub CoreRefused : Call → Store → ℕ → Type 0
 CoreRefused (enter x) st = RowRefused (rowsOf (st .directory)) x
 CoreRefused (move w a s q) st = MoveRefused (rowsOf (st .directory)) (st .positions) w a s q
 CoreRefused (pay w a m) st = PayRefused (rowsOf (st .directory)) (st .cash) w a m
-CoreRefused (settle h g lent) st = SettleRefused (rowsOf (st .directory)) (st .positions) (st .cash) h g
-CoreRefused (derive h g lent) st = DeriveRefused (rowsOf (st .directory)) h g
+CoreRefused (settle hs lent) st = SettleRefused (rowsOf (st .directory)) (st .positions) (st .cash) hs
+CoreRefused (derive hs lent) st = DeriveRefused (rowsOf (st .directory)) hs
 
 -- 3 to 22: the number n applies to the call
 pub data Applies (c : Call) (st : Store) : ℕ → Type 0 where

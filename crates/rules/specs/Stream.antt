@@ -9,7 +9,7 @@ use mathlib.Core.Option.{Option, none, some}
 use lib.IntN.{ℤ, pos, negsuc}
 use lib.Dec.{ltb, eqb}
 use lib.ListN.{length, getD, getElem?, take, drop, replicate}
-use Rattle.rules.specs.Types.{Account, Security, Half, Step, Units, Cents, Answer, Accepted, Booked, Chained, Refused}
+use Rattle.rules.specs.Types.{Account, Security, Half, SidedHalf, Halves, Ordered, Sided, Step, Units, Cents, Answer, Accepted, Booked, Chained, Refused}
 use Rattle.rules.specs.Directory.{rowsOf, isKind}
 use Rattle.rules.specs.Entries.{Row, csdRow, securityRow, accountRow, pairRow, linkRow}
 use Rattle.rules.specs.Chain.{stepLimit}
@@ -74,6 +74,22 @@ halfAt o at =
       amount = numberAt o (at + 12) 8;
     }
 
+-- bytes of a half
+abbrev pub halfWidth : ℕ
+halfWidth = 20
+
+-- "0A settle, 0B derive: two halves, delivering first"
+abbrev pub orderedAt : List ℕ → Halves
+orderedAt o = Ordered (halfAt o 0) (halfAt o halfWidth)
+
+-- "one byte before each half"
+abbrev pub sidedHalfAt : List ℕ → ℕ → SidedHalf
+sidedHalfAt o at = record { side = numberAt o at 1; half = halfAt o (at + 1) }
+
+-- "0C (settle) and 0D (derive) are 0A and 0B with one byte before each half" (02)
+abbrev pub sidedAt : List ℕ → Halves
+sidedAt o = Sided (sidedHalfAt o 0) (sidedHalfAt o (halfWidth + 1))
+
 -- the step list that the program lends
 abbrev pub blankStep : Step
 blankStep = record { csd = 0; debited = 0; credited = 0 }
@@ -84,16 +100,16 @@ programSteps = replicate stepLimit blankStep
 
 -- ---- commands
 
--- the operands' widths of the commands 01 to 0B
+-- the operands' widths of the commands 01 to 0D
 abbrev pub widths : List ℕ
-widths = 12 ∷ 12 ∷ 2 ∷ 6 ∷ 7 ∷ 11 ∷ 11 ∷ 10 ∷ 10 ∷ 40 ∷ 40 ∷ []
+widths = 12 ∷ 12 ∷ 2 ∷ 6 ∷ 7 ∷ 11 ∷ 11 ∷ 10 ∷ 10 ∷ 40 ∷ 40 ∷ 42 ∷ 42 ∷ []
 
 -- how many operand bytes follow a command byte; none for an unknown byte
 abbrev pub widthOf : ℕ → Option ℕ
 widthOf zero = none
 widthOf (suc n) = getElem? widths n
 
--- the call of a command byte with its operands; "0A settle, 0B derive: two halves, delivering first"
+-- the call of a command byte with its operands
 unfoldable pub callOf : ℕ → List ℕ → Call
 callOf tag o =
     cond (eqb tag 1) (enter (csdAt o))
@@ -105,8 +121,10 @@ callOf tag o =
     (cond (eqb tag 7) (moveAt outgoing o)
     (cond (eqb tag 8) (payAt incoming o)
     (cond (eqb tag 9) (payAt outgoing o)
-    (cond (eqb tag 10) (settle (halfAt o 0) (halfAt o 20) programSteps)
-    (derive (halfAt o 0) (halfAt o 20) programSteps))))))))))
+    (cond (eqb tag 10) (settle (orderedAt o) programSteps)
+    (cond (eqb tag 11) (derive (orderedAt o) programSteps)
+    (cond (eqb tag 12) (settle (sidedAt o) programSteps)
+    (derive (sidedAt o) programSteps))))))))))))
 
 -- What the reader finds at its place: the end, an unknown byte (1), operands cut short (2), or a command with its operands and the
 -- bytes behind it.

@@ -1,4 +1,4 @@
--- Tests over rows and numbers, and the lowest refusal that applies. Assumes nothing.
+-- Tests over rows and numbers, and the first refusal that applies. Assumes nothing.
 use Prim.Native.Nat.{ℕ, zero, suc}
 use mathlib.Core.Bool.{Bool, true, false, _&&_, _||_, cond}
 use mathlib.Core.List.{List, [], _∷_, _++_}
@@ -44,7 +44,8 @@ infix 70 _when_
 abbrev pub _when_ : ℕ → Bool → Condition
 n when b = record { number = n; holds = b }
 
--- "The lowest number that applies is given": conditions are listed by number, and 0 says that none applies
-abbrev pub lowest : List Condition → ℕ
-lowest [] = 0
-lowest (c ∷ cs) = cond (c .holds) (c .number) (lowest cs)
+-- The first number that applies is given: conditions are listed in the order of places, as "just before 12" (document 02) wants a 23, and 0 says that
+-- none applies. Among the numbers of document 01 the first is "The lowest number that applies"
+abbrev pub firstOf : List Condition → ℕ
+firstOf [] = 0
+firstOf (c ∷ cs) = cond (c .holds) (c .number) (firstOf cs)

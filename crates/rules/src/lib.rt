@@ -121,6 +121,23 @@ pub struct Half {
     pub amount: u64,
 }
 
+// The sides of an instruction.
+pub const DELIVERING: u8 = 0;
+
+pub const RECEIVING: u8 = 1;
+
+// A half with its side written out.
+pub struct SidedHalf {
+    pub side: u8,
+    pub half: Half,
+}
+
+// Two halves as a call is given them: delivering first, or each with its side, in either order.
+pub enum Halves {
+    Ordered(Half, Half),
+    Sided(SidedHalf, SidedHalf),
+}
+
 // One step of a chain: the CSD, the account debited and the account credited in its books.
 pub struct Step {
     pub csd: u8,
@@ -161,7 +178,7 @@ pub enum Verdict {
     Apart(u8),
 }
 
-// What a call answers. Booked and Chained carry the number of steps, Refused the number of document 01.
+// What a call answers. Booked and Chained carry the number of steps, Refused the number of the documents.
 pub enum Answer {
     Accepted,
     Booked(usize),

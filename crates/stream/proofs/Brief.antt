@@ -12,7 +12,7 @@ use Rattle.rules.specs.declared.Half.{Half}
 use Rattle.rules.specs.declared.Step.{Step}
 use Rattle.rules.specs.declared.Answer.{Answer}
 use Rattle.rules.specs.declared.Answer.the-variants.{Accepted, Booked, Chained, Refused}
-use Rattle.rules.specs.Tests.{lowest}
+use Rattle.rules.specs.Tests.{firstOf}
 use Rattle.rules.specs.Directory.{Rows, rowsOf}
 use Rattle.rules.specs.Lookups.{ask}
 use Rattle.rules.specs.Chain.{chained, stepsOf, chainConditions, stepLimit}
@@ -68,18 +68,18 @@ stop-short n refusal h l = brief-lines n (Refused refusal) [] h l (plain-brief (
 -- ---- what a call tells
 
 -- a refusal tells no step
-refused-or : (c : Call) (st : Store) → (lowest (deskConditions c st) ≡ 0 → Brief (success c st) (writtenFor c st)) → Brief (desk c st .answer) (desk c st .steps)
+refused-or : (c : Call) (st : Store) → (firstOf (deskConditions c st) ≡ 0 → Brief (success c st) (writtenFor c st)) → Brief (desk c st .answer) (desk c st .steps)
 unfolding desk
-refused-or c st h = go (lowest (deskConditions c st)) refl
+refused-or c st h = go (firstOf (deskConditions c st)) refl
   where
-    go : (n : ℕ) → lowest (deskConditions c st) ≡ n → Brief (outcome n c st .answer) (outcome n c st .steps)
+    go : (n : ℕ) → firstOf (deskConditions c st) ≡ n → Brief (outcome n c st .answer) (outcome n c st .steps)
     go zero e = h e
     go (suc n) e = plain-brief (Refused (suc n)) (lentSteps c) refl
 
 -- nor does a call without a chain
 plain-told : (c : Call) (st : Store) → countOf (success c st) ≡ 0 → countOf (desk c st .answer) ≡ 0
 unfolding desk
-plain-told c st e = go (lowest (deskConditions c st))
+plain-told c st e = go (firstOf (deskConditions c st))
   where
     go : (n : ℕ) → countOf (outcome n c st .answer) ≡ 0
     go zero = e

@@ -23,7 +23,7 @@ use Rattle.rules.proofs.Conditions.{quiet-both}
 use Rattle.rules.proofs.Permissions.{NotBeyond, not-beyond}
 use Rattle.rules.proofs.MoveRelation.{contra-is}
 use Rattle.rules.proofs.Accepted.{facts-of}
-use Rattle.rules.proofs.Refusals.{desk-quiet, desk-clear, accepted-lowest}
+use Rattle.rules.proofs.Refusals.{desk-quiet, desk-clear, accepted-free}
 use Rattle.rules.proofs.Theorems.{demand1, demand2}
 
 pub record Bounded (st : Store) : Type 0 where
@@ -106,7 +106,7 @@ module _ (st : Store) (b : Bounded st) where
   unfolding moveChain
   move-kept w a s q e =
       let k = demand2 .changes (move w a s q) st e in
-      let clear = accepted-lowest (move w a s q) st e in
+      let clear = accepted-free (move w a s q) st e in
       let all : Quiet (deskConditions (move w a s q) st) = desk-quiet (move w a s q) st clear in
       let other = contra-is rows (facts-of (move w a s q) st clear) s (homeOf (rows .accounts) a) (k .1 .0) (k .1 .1) in
       let x : Step = moveStep w (homeOf (rows .accounts) a) a (k .1 .0) in
@@ -125,7 +125,7 @@ module _ (st : Store) (b : Bounded st) where
   unfolding cashBeyond
   pay-kept w a m e =
       let k = demand2 .changes (pay w a m) st e in
-      let all : Quiet (deskConditions (pay w a m) st) = desk-quiet (pay w a m) st (accepted-lowest (pay w a m) st e) in
+      let all : Quiet (deskConditions (pay w a m) st) = desk-quiet (pay w a m) st (accepted-free (pay w a m) st e) in
       record { units = rw (k .1) (b .units); cents = λ c. go c (k .2) (k .3) (all .1 .1 .1 .1 .1 .1 .0) (ℕ-discrete c a) }
     where
       go : (c : ℕ) → cashOn (desk (pay w a m) st .store .cash) a ≡ cashOn (st .cash) a +ℤ payment w m .0
@@ -136,7 +136,7 @@ module _ (st : Store) (b : Bounded st) where
 
   settle-kept : (h g : Half) (lent : List Step) → isAccepted (desk (settle h g lent) st .answer) ≡ true → Bounded (desk (settle h g lent) st .store)
   settle-kept h g lent e =
-      let answer = ap (λ o. o .answer) (desk-clear (settle h g lent) st (accepted-lowest (settle h g lent) st e)) in
+      let answer = ap (λ o. o .answer) (desk-clear (settle h g lent) st (accepted-free (settle h g lent) st e)) in
       let k = demand2 .books st h g lent .onlyThen _ answer in
       let free = k .1 .allowed in
       let pair = k .3 in

@@ -10,7 +10,7 @@ use Rattle.rules.specs.declared.Answer.{Answer}
 use Rattle.rules.specs.declared.Entered.{Entered}
 use Rattle.rules.specs.declared.Half.{Half}
 use Rattle.rules.specs.declared.Step.{Step}
-use Rattle.rules.specs.Tests.{lowest}
+use Rattle.rules.specs.Tests.{firstOf}
 use Rattle.rules.specs.Directory.{rowsOf}
 use Rattle.rules.specs.Entries.{Row, rowConditions}
 use Rattle.rules.specs.Lookups.{ask}
@@ -36,7 +36,7 @@ use Rattle.stream.specs.Obeyed.{keptIn, Held, held, Holds, Obeys, Does, 
 
 no-count : (c : Call) (st : Store) → countOf (success c st) ≡ 0 → countOf (core c st .answer) ≡ 0
 unfolding core
-no-count c st e = go (lowest (coreConditions c st))
+no-count c st e = go (firstOf (coreConditions c st))
   where
     go : (n : ℕ) → countOf (outcome n c st .answer) ≡ 0
     go zero = e
@@ -53,7 +53,7 @@ enteredOn st x = record { answer = x .answer; store = record { directory = x .di
 
 enter-called : (x : Row) (st : Store) → core (enter x) st ≡ enteredOn st (enterRow x (st .directory))
 unfolding core enterRow
-enter-called x st = go (lowest (rowConditions (rowsOf (st .directory)) x))
+enter-called x st = go (firstOf (rowConditions (rowsOf (st .directory)) x))
   where
     go : (n : ℕ) → outcome n (enter x) st ≡ enteredOn st (enteredBy n x (st .directory))
     go zero = refl

@@ -3,7 +3,7 @@ use Prim.Native.Nat.{ℕ}
 use mathlib.Core.Path.{_≡_, sym, _∙_}
 use lib.ListN.{drop}
 use borrow.Author.Tests.{lt-ltb, le-ltb}
-use Rattle.rules.specs.Tests.{lowest}
+use Rattle.rules.specs.Tests.{firstOf}
 use Rattle.rules.specs.Entries.{accountConditions}
 use Rattle.index.specs.Asked.{asked}
 use Rattle.entries.specs.Entered.{accountRefusalIn}
@@ -11,11 +11,11 @@ use borrow.Author.Needs.{needs}
 use Rattle.entries.proofs.refusals.account_refusal.Statement.{statement}
 use Rattle.entries.proofs.refusals.account_refusal.Tie as tie
 
--- past the first k tests the number is the lowest of the others
+-- past the first k tests the number is the first of the others
 abbrev Past : ℕ → tie.Start → Type 0
 Past k s =
     let conditions = accountConditions (asked (s .args .index .now)) (s .args .row) in
-    lowest conditions ≡ lowest (drop k conditions)
+    firstOf conditions ≡ firstOf (drop k conditions)
 
 past1 : (c : tie.Else1) → Past 1 (c .before .before)
 past1 c = rw (← c .before .accounts-full .ensures, c .if1 .left)

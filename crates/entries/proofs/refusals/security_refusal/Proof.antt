@@ -4,7 +4,7 @@ use mathlib.Core.Path.{_≡_, sym, _∙_}
 use lib.ListN.{drop}
 use lib.Dec.{leb}
 use borrow.Author.Tests.{le-leb, lt-leb}
-use Rattle.rules.specs.Tests.{lowest}
+use Rattle.rules.specs.Tests.{firstOf}
 use Rattle.rules.specs.Directory.{securityLimit}
 use Rattle.rules.specs.Entries.{securityConditions}
 use Rattle.index.specs.Index.{securityCount}
@@ -15,12 +15,12 @@ use borrow.Author.Needs.{needs}
 use Rattle.entries.proofs.refusals.security_refusal.Statement.{statement}
 use Rattle.entries.proofs.refusals.security_refusal.Tie as tie
 
--- past the first k tests the number is the lowest of the others
+-- past the first k tests the number is the first of the others
 abbrev Past : ℕ → tie.Start → Type 0
 Past k s =
     let a = s .args in
     let conditions = securityConditions (leb securityLimit (read (a .index .now) securityCount)) (isinIn (a .index .now) (a .names .now)) (a .row) in
-    lowest conditions ≡ lowest (drop k conditions)
+    firstOf conditions ≡ firstOf (drop k conditions)
 
 past1 : (c : tie.Else1) → Past 1 (c .before .before)
 unfolding read
