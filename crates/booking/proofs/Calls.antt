@@ -2,7 +2,7 @@
 use Prim.Native.Nat.{ℕ, zero, suc}
 use mathlib.Core.Path.{_≡_, refl}
 use mathlib.Core.List.{List, []}
-use Rattle.rules.specs.declared.Half.{Half}
+use Rattle.rules.specs.declared.Halves.{Halves}
 use Rattle.rules.specs.declared.Step.{Step}
 use Rattle.rules.specs.Tests.{firstOf}
 use Rattle.rules.specs.Directory.{rowsOf}
@@ -51,10 +51,10 @@ module _ (st : Store) where
       go zero = refl
       go (suc n) = refl
 
-  pub core-settles : (h g : Half) (lent : List Step) → core (settle h g lent) st ≡ settledOn st lent (settleOutcome rows (st .positions) (st .cash) h g)
+  pub core-settles : (hs : Halves) (lent : List Step) → core (settle hs lent) st ≡ settledOn st lent (settleOutcome rows (st .positions) (st .cash) hs)
   unfolding core settleOutcome
-  core-settles h g lent = go (firstOf (settleConditions rows (st .positions) (st .cash) h g))
+  core-settles hs lent = go (firstOf (settleConditions rows (st .positions) (st .cash) hs))
     where
-      go : (n : ℕ) → outcome n (settle h g lent) st ≡ settledOn st lent (settleOutcomeBy n (st .positions) (st .cash) h g (stepsOf (halvesChain rows h g)))
+      go : (n : ℕ) → outcome n (settle hs lent) st ≡ settledOn st lent (settleOutcomeBy n (st .positions) (st .cash) hs (stepsOf (halvesChain rows hs)))
       go zero = refl
       go (suc n) = refl

@@ -6,7 +6,7 @@ use mathlib.Core.List.{List, []}
 use lib.Dec.{eqb}
 use lib.IntN.{ℤ}
 use lib.ListN.{length}
-use Rattle.rules.specs.declared.Half.{Half}
+use Rattle.rules.specs.declared.Halves.{Halves}
 use Rattle.rules.specs.declared.Step.{Step}
 use Rattle.rules.specs.declared.Answer.{Answer}
 use Rattle.rules.specs.declared.Answer.the-variants.{Booked, Refused}
@@ -14,7 +14,7 @@ use Rattle.rules.specs.Tests.{firstOf}
 use Rattle.rules.specs.Lookups.{Lookups}
 use Rattle.rules.specs.Chain.{stepsOf}
 use Rattle.rules.specs.Booking.{booked, paid}
-use Rattle.rules.specs.Calls.{countOf, halvesChain, settleConditions}
+use Rattle.rules.specs.Calls.{countOf, delivering, receiving, halvesChain, settleConditions}
 use Rattle.chain.specs.StepList.{stepNumbers, stepsIn, noted}
 use Rattle.chain.specs.Derivation.{derivedInto}
 
@@ -26,23 +26,23 @@ pub record SettleOutcome : Type 0 where
   pub cash : List ℤ
 
 -- by the refusal's number: the steps are booked and paid for, or nothing changes
-abbrev pub settleOutcomeBy : ℕ → List ℤ → List ℤ → Half → Half → List Step → SettleOutcome
-settleOutcomeBy zero p c h g xs =
+abbrev pub settleOutcomeBy : ℕ → List ℤ → List ℤ → Halves → List Step → SettleOutcome
+settleOutcomeBy zero p c hs xs =
     record {
       answer = Booked (length xs);
       steps = xs;
-      positions = booked xs (h .security) (h .quantity) p;
-      cash = paid c (g .account) (h .account) (h .amount);
+      positions = booked xs (delivering hs .security) (delivering hs .quantity) p;
+      cash = paid c (receiving hs .account) (delivering hs .account) (delivering hs .amount);
     }
-settleOutcomeBy (suc n) p c h g xs = record { answer = Refused (suc n); steps = []; positions = p; cash = c }
+settleOutcomeBy (suc n) p c hs xs = record { answer = Refused (suc n); steps = []; positions = p; cash = c }
 
--- the settlement of the halves h, which delivers, and g, which receives
-unfoldable pub settleOutcome : Lookups → List ℤ → List ℤ → Half → Half → SettleOutcome
-settleOutcome k p c h g = settleOutcomeBy (firstOf (settleConditions k p c h g)) p c h g (stepsOf (halvesChain k h g))
+-- the settlement of two halves
+unfoldable pub settleOutcome : Lookups → List ℤ → List ℤ → Halves → SettleOutcome
+settleOutcome k p c hs = settleOutcomeBy (firstOf (settleConditions k p c hs)) p c hs (stepsOf (halvesChain k hs))
 
 -- the same into the lent list l; 3 where the list has another length
-unfoldable pub settleInto : List ℕ → Lookups → List ℤ → List ℤ → Half → Half → SettleOutcome
-settleInto l k p c h g = cond (eqb (length l) stepNumbers) (settleOutcome k p c h g) (settleOutcomeBy 3 p c h g [])
+unfoldable pub settleInto : List ℕ → Lookups → List ℤ → List ℤ → Halves → SettleOutcome
+settleInto l k p c hs = cond (eqb (length l) stepNumbers) (settleOutcome k p c hs) (settleOutcomeBy 3 p c hs [])
 
 -- The list l was lent for steps and is left as m, with the steps xs noted. What is answered, the steps of the answer that m then holds, and the positions
 -- and cash left are the outcome's.
@@ -54,5 +54,5 @@ pub record SettledIn (l m : List ℕ) (xs : List Step) (o : SettleOutcome) (r : 
   pub list : m ≡ noted xs l
 
 -- what a function that settles promises: it leaves the list as a derivation does, so that the chain stands there also where 20 to 22 then refuse
-abbrev pub Settles : List ℕ → List ℕ → Lookups → List ℤ → List ℤ → Half → Half → Answer → List ℤ → List ℤ → Type 0
-Settles l m k p c h g r p′ c′ = SettledIn l m (derivedInto l k h g .steps) (settleInto l k p c h g) r p′ c′
+abbrev pub Settles : List ℕ → List ℕ → Lookups → List ℤ → List ℤ → Halves → Answer → List ℤ → List ℤ → Type 0
+Settles l m k p c hs r p′ c′ = SettledIn l m (derivedInto l k hs .steps) (settleInto l k p c hs) r p′ c′

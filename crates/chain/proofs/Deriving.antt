@@ -4,14 +4,14 @@ use mathlib.Core.Path.{_≡_, refl, sym, ap, _∙_}
 use mathlib.Core.List.{List, []}
 use lib.ListN.{length}
 use borrow.Author.Tests.{eq-eqb, ne-eqb}
-use Rattle.rules.specs.declared.Half.{Half}
+use Rattle.rules.specs.declared.Halves.{Halves}
 use Rattle.rules.specs.declared.Step.{Step}
 use Rattle.rules.specs.declared.Answer.the-variants.{Chained, Refused}
 use Rattle.rules.specs.Tests.{firstOf}
 use Rattle.rules.specs.Directory.{rowsOf}
 use Rattle.rules.specs.Lookups.{Lookups, ask}
 use Rattle.rules.specs.Chain.{chained, unchained, chain, stepsOf, chainConditions}
-use Rattle.rules.specs.Calls.{Store, Outcome, derive, outcome, core, written, halvesConditions, halvesChain, deriveConditions}
+use Rattle.rules.specs.Calls.{Store, Outcome, derive, outcome, core, written, delivering, receiving, halvesConditions, halvesChain, deriveConditions}
 use Rattle.rules.proofs.Basics.{quiet, impossible}
 use Rattle.rules.proofs.Conditions.{first-before, first-after}
 use Rattle.chain.specs.StepList.{stepNumbers, stepsIn, noted}
@@ -30,36 +30,36 @@ module _ (l : List ℕ) (k : Lookups) (s a b : ℕ) where
   unfolding chainInto
   chain-fits e = rw (eq-eqb (length l) stepNumbers e)
 
-module _ (l : List ℕ) (k : Lookups) (h g : Half) where
-  pub derived-misfit : (length l ≡ stepNumbers → ⊥) → derivedInto l k h g ≡ derivedBy 3 []
+module _ (l : List ℕ) (k : Lookups) (hs : Halves) where
+  pub derived-misfit : (length l ≡ stepNumbers → ⊥) → derivedInto l k hs ≡ derivedBy 3 []
   unfolding derivedInto
   derived-misfit z = rw (ne-eqb (length l) stepNumbers z)
 
-  pub derived-fits : length l ≡ stepNumbers → derivedInto l k h g ≡ derived k h g
+  pub derived-fits : length l ≡ stepNumbers → derivedInto l k hs ≡ derived k hs
   unfolding derivedInto
   derived-fits e = rw (eq-eqb (length l) stepNumbers e)
 
 -- ---- the derivation by its number
-module _ (k : Lookups) (h g : Half) where
-  by-number : (n : ℕ) → firstOf (deriveConditions k h g) ≡ n → derived k h g ≡ derivedBy n (stepsOf (halvesChain k h g))
+module _ (k : Lookups) (hs : Halves) where
+  by-number : (n : ℕ) → firstOf (deriveConditions k hs) ≡ n → derived k hs ≡ derivedBy n (stepsOf (halvesChain k hs))
   unfolding derived
-  by-number n e = ap (λ (i : ℕ). derivedBy i (stepsOf (halvesChain k h g))) e
+  by-number n e = ap (λ (i : ℕ). derivedBy i (stepsOf (halvesChain k hs))) e
 
-  refused-with : (n : ℕ) → firstOf (deriveConditions k h g) ≡ n → (n ≡ 0 → ⊥) → derived k h g ≡ derivedBy n []
+  refused-with : (n : ℕ) → firstOf (deriveConditions k hs) ≡ n → (n ≡ 0 → ⊥) → derived k hs ≡ derivedBy n []
   refused-with zero e z = absurd (z refl)
   refused-with (suc n) e z = by-number (suc n) e
 
-  refused-by-halves : (n : ℕ) → n ≡ firstOf (halvesConditions k h g) → (n ≡ 0 → ⊥) → derived k h g ≡ derivedBy n []
-  refused-by-halves n e z = refused-with n (first-before (halvesConditions k h g) (chainConditions (halvesChain k h g)) (λ w. z (e ∙ w)) ∙ sym e) z
+  refused-by-halves : (n : ℕ) → n ≡ firstOf (halvesConditions k hs) → (n ≡ 0 → ⊥) → derived k hs ≡ derivedBy n []
+  refused-by-halves n e z = refused-with n (first-before (halvesConditions k hs) (chainConditions (halvesChain k hs)) (λ w. z (e ∙ w)) ∙ sym e) z
 
-  module _ (passed : firstOf (halvesConditions k h g) ≡ 0) where
-    then-chain : firstOf (deriveConditions k h g) ≡ firstOf (chainConditions (halvesChain k h g))
-    then-chain = first-after (halvesConditions k h g) (chainConditions (halvesChain k h g)) (quiet (halvesConditions k h g) refl passed)
+  module _ (passed : firstOf (halvesConditions k hs) ≡ 0) where
+    then-chain : firstOf (deriveConditions k hs) ≡ firstOf (chainConditions (halvesChain k hs))
+    then-chain = first-after (halvesConditions k hs) (chainConditions (halvesChain k hs)) (quiet (halvesConditions k hs) refl passed)
 
-    refused-by-chain : (n : ℕ) → halvesChain k h g ≡ unchained n → (n ≡ 0 → ⊥) → derived k h g ≡ derivedBy n []
+    refused-by-chain : (n : ℕ) → halvesChain k hs ≡ unchained n → (n ≡ 0 → ⊥) → derived k hs ≡ derivedBy n []
     refused-by-chain n e z = refused-with n (then-chain ∙ rw e) z
 
-    accepted : (xs : List Step) → halvesChain k h g ≡ chained xs → derived k h g ≡ derivedBy 0 xs
+    accepted : (xs : List Step) → halvesChain k hs ≡ chained xs → derived k hs ≡ derivedBy 0 xs
     accepted xs e = by-number 0 (then-chain ∙ rw e) ∙ rw e
 
 -- ---- what a function that derives promises, case by case
@@ -67,29 +67,29 @@ derived-none : (l m : List ℕ) (x : Derived) (n : ℕ) → (n ≡ 0 → ⊥) �
 derived-none l m x zero z e same = absurd (z refl)
 derived-none l m x (suc n) z e same = rw e (record { answer = refl; steps = steps-none m; list = same ∙ sym (noted-none l) })
 
-module _ (l : List ℕ) (k : Lookups) (h g : Half) where
-  pub derives-misfit : (length l ≡ stepNumbers → ⊥) → Derives l l k h g (Refused 3)
-  derives-misfit z = derived-none l l (derivedInto l k h g) 3 (λ e. impossible (cc)) (derived-misfit l k h g z) refl
+module _ (l : List ℕ) (k : Lookups) (hs : Halves) where
+  pub derives-misfit : (length l ≡ stepNumbers → ⊥) → Derives l l k hs (Refused 3)
+  derives-misfit z = derived-none l l (derivedInto l k hs) 3 (λ e. impossible (cc)) (derived-misfit l k hs z) refl
 
   module _ (fits : length l ≡ stepNumbers) where
-    pub derives-halves : (n : ℕ) → n ≡ firstOf (halvesConditions k h g) → (n ≡ 0 → ⊥) → Derives l l k h g (Refused n)
-    derives-halves n e z = derived-none l l (derivedInto l k h g) n z (derived-fits l k h g fits ∙ refused-by-halves k h g n e z) refl
+    pub derives-halves : (n : ℕ) → n ≡ firstOf (halvesConditions k hs) → (n ≡ 0 → ⊥) → Derives l l k hs (Refused n)
+    derives-halves n e z = derived-none l l (derivedInto l k hs) n z (derived-fits l k hs fits ∙ refused-by-halves k hs n e z) refl
 
-    module _ (passed : firstOf (halvesConditions k h g) ≡ 0) (m : List ℕ) (r : Found) (f : Finds l m k (h .security) (h .account) (g .account) r) where
-      chain-is : halvesChain k h g ≡ chainInto l k (h .security) (h .account) (g .account)
-      chain-is = sym (chain-fits l k (h .security) (h .account) (g .account) fits)
+    module _ (passed : firstOf (halvesConditions k hs) ≡ 0) (m : List ℕ) (r : Found) (f : Finds l m k (delivering hs .security) (delivering hs .account) (receiving hs .account) r) where
+      chain-is : halvesChain k hs ≡ chainInto l k (delivering hs .security) (delivering hs .account) (receiving hs .account)
+      chain-is = sym (chain-fits l k (delivering hs .security) (delivering hs .account) (receiving hs .account) fits)
 
-      pub derives-refused : (r .refusal ≡ 0 → ⊥) → Derives l m k h g (Refused (r .refusal))
+      pub derives-refused : (r .refusal ≡ 0 → ⊥) → Derives l m k hs (Refused (r .refusal))
       derives-refused z =
           let t = found-refused f z in
-          derived-none l m (derivedInto l k h g) (r .refusal) z
-          (derived-fits l k h g fits ∙ refused-by-chain k h g passed (r .refusal) (chain-is ∙ t .0) z)
+          derived-none l m (derivedInto l k hs) (r .refusal) z
+          (derived-fits l k hs fits ∙ refused-by-chain k hs passed (r .refusal) (chain-is ∙ t .0) z)
           (t .1)
 
-      pub derives-chained : r .refusal ≡ 0 → Derives l m k h g (Chained (r .count))
+      pub derives-chained : r .refusal ≡ 0 → Derives l m k hs (Chained (r .count))
       derives-chained z =
           let xs = stepsIn m (r .count) in
-          rw (derived-fits l k h g fits ∙ accepted k h g passed xs (chain-is ∙ found-chained f z))
+          rw (derived-fits l k hs fits ∙ accepted k hs passed xs (chain-is ∙ found-chained f z))
           (record {
             answer = ap Chained (steps-counted m (r .count));
             steps = refl;
@@ -101,11 +101,11 @@ module _ (l : List ℕ) (k : Lookups) (h g : Half) where
 abbrev pub outcomeOf : Store → List Step → Derived → Outcome
 outcomeOf st lent x = record { answer = x .answer; store = st; steps = written (x .steps) lent }
 
-module _ (st : Store) (h g : Half) (lent : List Step) where
-  by-cases : (n : ℕ) → outcome n (derive h g lent) st ≡ outcomeOf st lent (derivedBy n (stepsOf (halvesChain (ask (rowsOf (st .directory))) h g)))
+module _ (st : Store) (hs : Halves) (lent : List Step) where
+  by-cases : (n : ℕ) → outcome n (derive hs lent) st ≡ outcomeOf st lent (derivedBy n (stepsOf (halvesChain (ask (rowsOf (st .directory))) hs)))
   by-cases zero = refl
   by-cases (suc n) = refl
 
-  pub core-derives : core (derive h g lent) st ≡ outcomeOf st lent (derived (ask (rowsOf (st .directory))) h g)
+  pub core-derives : core (derive hs lent) st ≡ outcomeOf st lent (derived (ask (rowsOf (st .directory))) hs)
   unfolding core derived
-  core-derives = by-cases (firstOf (deriveConditions (ask (rowsOf (st .directory))) h g))
+  core-derives = by-cases (firstOf (deriveConditions (ask (rowsOf (st .directory))) hs))

@@ -5,7 +5,7 @@ use mathlib.Core.Bool.{cond}
 use mathlib.Core.List.{List, []}
 use lib.Dec.{eqb}
 use lib.ListN.{length}
-use Rattle.rules.specs.declared.Half.{Half}
+use Rattle.rules.specs.declared.Halves.{Halves}
 use Rattle.rules.specs.declared.Step.{Step}
 use Rattle.rules.specs.declared.Answer.{Answer}
 use Rattle.rules.specs.declared.Answer.the-variants.{Chained, Refused}
@@ -35,13 +35,13 @@ abbrev pub derivedBy : ℕ → List Step → Derived
 derivedBy zero xs = record { answer = Chained (length xs); steps = xs }
 derivedBy (suc n) xs = record { answer = Refused (suc n); steps = [] }
 
--- the derivation for the halves h, which delivers, and g, which receives
-unfoldable pub derived : Lookups → Half → Half → Derived
-derived k h g = derivedBy (firstOf (deriveConditions k h g)) (stepsOf (halvesChain k h g))
+-- the derivation for two halves
+unfoldable pub derived : Lookups → Halves → Derived
+derived k hs = derivedBy (firstOf (deriveConditions k hs)) (stepsOf (halvesChain k hs))
 
 -- the same into the lent list l; 3 where the list has another length
-unfoldable pub derivedInto : List ℕ → Lookups → Half → Half → Derived
-derivedInto l k h g = cond (eqb (length l) stepNumbers) (derived k h g) (derivedBy 3 [])
+unfoldable pub derivedInto : List ℕ → Lookups → Halves → Derived
+derivedInto l k hs = cond (eqb (length l) stepNumbers) (derived k hs) (derivedBy 3 [])
 
 -- The list l was lent for the derivation x, and is left as m: the answer and the steps that it then holds are the derivation's, and the rest is untouched.
 pub record DerivedIn (l m : List ℕ) (x : Derived) (r : Answer) : Type 0 where
@@ -50,5 +50,5 @@ pub record DerivedIn (l m : List ℕ) (x : Derived) (r : Answer) : Type 0 where
   pub list : m ≡ noted (x .steps) l
 
 -- what a function that derives promises
-abbrev pub Derives : List ℕ → List ℕ → Lookups → Half → Half → Answer → Type 0
-Derives l m k h g r = DerivedIn l m (derivedInto l k h g) r
+abbrev pub Derives : List ℕ → List ℕ → Lookups → Halves → Answer → Type 0
+Derives l m k hs r = DerivedIn l m (derivedInto l k hs) r

@@ -1,12 +1,14 @@
 // The chain between two accounts, and the derivation for two halves.
+use crate::halves::delivering;
 use crate::halves::halves_refusal;
+use crate::halves::receiving;
 use crate::step_list::STEP_NUMBERS;
 use crate::steps::Found;
 use crate::steps::steps_along;
 use index::lookups::home_of;
 use index::places::INDEX;
 use rules::Answer;
-use rules::Half;
+use rules::Halves;
 use walks::routes::route_of;
 ghost use Rattle.index.specs.Asked.{asked};
 ghost use Rattle.chain.specs.Derivation.{Finds, Derives};
@@ -33,24 +35,20 @@ pub fn chain_of(
     steps_along(index, security, delivering, receiving, route, steps)
 }
 
-// 3, then 6, 7, 10, 12, 13, then the chain.
-pub fn derive(index: &[u16; INDEX], steps: &mut [u16], delivering: Half, receiving: Half) -> Answer
-    ensures { λ r. ⌜ Derives (now (steps .entry)) (now (steps .exit)) (asked (now (index .entry))) delivering receiving r ⌝ }
+// 3, then 6, 7, 10, 23, 12, 13, then the chain.
+pub fn derive(index: &[u16; INDEX], steps: &mut [u16], halves: Halves) -> Answer
+    ensures { λ r. ⌜ Derives (now (steps .entry)) (now (steps .exit)) (asked (now (index .entry))) halves r ⌝ }
 {
     if steps.len() != STEP_NUMBERS {
         return Answer::Refused(3);
     }
-    let refusal = halves_refusal(index, delivering, receiving);
+    let refusal = halves_refusal(index, halves);
     if refusal != 0 {
         return Answer::Refused(refusal);
     }
-    let found = chain_of(
-        index,
-        delivering.security,
-        delivering.account,
-        receiving.account,
-        steps,
-    );
+    let from = delivering(halves);
+    let to = receiving(halves);
+    let found = chain_of(index, from.security, from.account, to.account, steps);
     if found.refusal != 0 {
         return Answer::Refused(found.refusal);
     }

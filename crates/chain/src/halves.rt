@@ -5,13 +5,72 @@ use index::lookups::is_csd;
 use index::lookups::is_kind;
 use index::lookups::is_security;
 use index::places::INDEX;
+use rules::DELIVERING;
 use rules::Half;
+use rules::Halves;
 use rules::LIMIT;
 use rules::PARTICIPANT;
+use rules::RECEIVING;
 ghost use mathlib.Core.Path.{_≡_};
 ghost use Rattle.rules.specs.Tests.{firstOf};
-ghost use Rattle.rules.specs.Calls.{halfUnknown, halfOutOfRange, halvesDiffer, halvesConditions};
+ghost use Rattle.rules.specs.Calls.{delivering, receiving, sideUnknown, sameSide, halfUnknown, halfOutOfRange, halvesDiffer, bothConditions, halvesConditions};
 ghost use Rattle.index.specs.Asked.{asked};
+
+// ---- the sides
+
+// The half that delivers: the first, or where sides are written out, the one of this side.
+pub fn delivering(halves: Halves) -> Half
+    ensures { λ r. ⌜ r ≡ delivering halves ⌝ }
+{
+    match halves {
+        Halves::Ordered(first, _) => first,
+        Halves::Sided(first, second) => {
+            if first.side == DELIVERING {
+                first.half
+            } else {
+                second.half
+            }
+        }
+    }
+}
+
+// The other one.
+pub fn receiving(halves: Halves) -> Half
+    ensures { λ r. ⌜ r ≡ receiving halves ⌝ }
+{
+    match halves {
+        Halves::Ordered(_, second) => second,
+        Halves::Sided(first, second) => {
+            if first.side == DELIVERING {
+                second.half
+            } else {
+                first.half
+            }
+        }
+    }
+}
+
+// Whether a side byte is none of the two.
+fn side_unknown(halves: Halves) -> bool
+    ensures { λ r. ⌜ r ≡ sideUnknown halves ⌝ }
+{
+    match halves {
+        Halves::Ordered(_, _) => false,
+        Halves::Sided(first, second) => (RECEIVING < first.side) | (RECEIVING < second.side),
+    }
+}
+
+// Whether both halves are of one side.
+fn same_side(halves: Halves) -> bool
+    ensures { λ r. ⌜ r ≡ sameSide halves ⌝ }
+{
+    match halves {
+        Halves::Ordered(_, _) => false,
+        Halves::Sided(first, second) => first.side == second.side,
+    }
+}
+
+// ---- the refusals
 
 // Whether the half's account, counterpart CSD or security names no row.
 fn half_unknown(index: &[u16; INDEX], half: Half) -> bool
@@ -41,20 +100,29 @@ fn halves_differ(index: &[u16; INDEX], delivering: Half, receiving: Half) -> boo
             | ((delivering.amount != receiving.amount) | (!to | !from)))
 }
 
-// 6 to 13, each over both halves; 0 where none applies.
-pub fn halves_refusal(index: &[u16; INDEX], delivering: Half, receiving: Half) -> u8
-    ensures { λ r. ⌜ r ≡ firstOf (halvesConditions (asked (now (index .entry))) delivering receiving) ⌝ }
+// 6, 7, 10, 23, 12 and 13, each over both halves; 0 where none applies. The last two are what is asked of their sides.
+fn both_refusal(
+    index: &[u16; INDEX],
+    delivering: Half,
+    receiving: Half,
+    unknown: bool,
+    same: bool,
+) -> u8
+    ensures { λ r. ⌜ r ≡ firstOf (bothConditions (asked (now (index .entry))) delivering receiving unknown same) ⌝ }
 {
     if half_unknown(index, delivering) | half_unknown(index, receiving) {
         return 6;
     }
-    if half_out_of_range(delivering) | half_out_of_range(receiving) {
+    if (half_out_of_range(delivering) | half_out_of_range(receiving)) | unknown {
         return 7;
     }
     let delivers = is_kind(index, delivering.account, PARTICIPANT);
     let receives = is_kind(index, receiving.account, PARTICIPANT);
     if !delivers | !receives {
         return 10;
+    }
+    if same {
+        return 23;
     }
     if halves_differ(index, delivering, receiving) {
         return 12;
@@ -63,4 +131,13 @@ pub fn halves_refusal(index: &[u16; INDEX], delivering: Half, receiving: Half) -
         return 13;
     }
     0
+}
+
+// The same of two halves as they are given.
+pub fn halves_refusal(index: &[u16; INDEX], halves: Halves) -> u8
+    ensures { λ r. ⌜ r ≡ firstOf (halvesConditions (asked (now (index .entry))) halves) ⌝ }
+{
+    let from = delivering(halves);
+    let to = receiving(halves);
+    both_refusal(index, from, to, side_unknown(halves), same_side(halves))
 }

@@ -16,7 +16,7 @@ use Rattle.rules.specs.declared.SecurityTotal.the-variants.{NoUnits}
 use Rattle.rules.specs.declared.CashTotal.the-variants.{NoCents}
 use Rattle.rules.specs.declared.Units.{Units}
 use Rattle.rules.specs.declared.Directory.{Directory}
-use Rattle.rules.specs.declared.Half.{Half}
+use Rattle.rules.specs.declared.Halves.{Halves}
 use Rattle.rules.specs.declared.Step.{Step}
 use Rattle.rules.specs.declared.Reply.{Reply}
 use Rattle.rules.specs.Directory.{rowsOf}
@@ -156,9 +156,9 @@ blankNumbers = replicate stepNumbers 0
 size : length blankNumbers ≡ stepNumbers
 size = length-replicate {A = ℕ} stepNumbers 0
 
-module _ (d : Directory) (lent : ℕ) (h g : Half) (n : ℕ) (k : Kept) (e : Admits (ltb lent stepLimit) d n k) where
+module _ (d : Directory) (lent : ℕ) (hs : Halves) (n : ℕ) (k : Kept) (e : Admits (ltb lent stepLimit) d n k) where
   abbrev called : Call
-  called = derive h g (blanks lent)
+  called = derive hs (blanks lent)
 
   abbrev handed : Store
   handed = holding d [] []
@@ -167,31 +167,31 @@ module _ (d : Directory) (lent : ℕ) (h g : Half) (n : ℕ) (k : Kept) (e : Adm
   unfolding misfit
   derive-early = e .number ∙ ap (λ (i : ℕ). early (ltb i stepLimit) d) (sym (length-replicate lent (step 0 0 0)))
 
-  pub derivation-refused : n ≢ 0 → refusal n ≡ replyOf (derivationOn d (blanks lent) h g)
-  derivation-refused ne = refusal-replied (derivationOn d (blanks lent) h g) n (ap answerOf (early-refused called handed n derive-early ne))
+  pub derivation-refused : n ≢ 0 → refusal n ≡ replyOf (derivationOn d (blanks lent) hs)
+  derivation-refused ne = refusal-replied (derivationOn d (blanks lent) hs) n (ap answerOf (early-refused called handed n derive-early ne))
 
-  module _ (z : n ≡ 0) (r : Answer) (m : List ℕ) (o : Derives blankNumbers m (asked (k .numbers)) h g r) where
-    the-core : outcomeOf handed (blanks lent) (derivedInto blankNumbers (asked (k .numbers)) h g) ≡ core called handed
+  module _ (z : n ≡ 0) (r : Answer) (m : List ℕ) (o : Derives blankNumbers m (asked (k .numbers)) hs r) where
+    the-core : outcomeOf handed (blanks lent) (derivedInto blankNumbers (asked (k .numbers)) hs) ≡ core called handed
     the-core =
-        ap (outcomeOf handed (blanks lent)) (derived-fits blankNumbers (asked (k .numbers)) h g size ∙ ap (λ (l : Lookups). derived l h g) (same d k (e .keeps z)))
-        ∙ sym (core-derives handed h g (blanks lent))
+        ap (outcomeOf handed (blanks lent)) (derived-fits blankNumbers (asked (k .numbers)) hs size ∙ ap (λ (l : Lookups). derived l hs) (same d k (e .keeps z)))
+        ∙ sym (core-derives handed hs (blanks lent))
 
     answered : r ≡ core called handed .answer
     answered = o .answer ∙ ap answerOf the-core
 
     pub derivation-few : countOf r ≤ stepLimit
-    derivation-few = core-few handed h g derives (blanks lent) r answered
+    derivation-few = core-few handed hs derives (blanks lent) r answered
 
-    pub derivation-passed : replied r m ≡ replyOf (derivationOn d (blanks lent) h g)
+    pub derivation-passed : replied r m ≡ replyOf (derivationOn d (blanks lent) hs)
     derivation-passed =
         let whole = the-core ∙ sym (early-passed called handed n derive-early z) in
         let steps = ap (λ (xs : List Step). written xs (blanks lent)) (o .steps) ∙ ap stepsLeft whole in
-        steps-replied (derivationOn d (blanks lent) h g) (blanks lent) r m (o .answer ∙ ap answerOf whole) steps
+        steps-replied (derivationOn d (blanks lent) hs) (blanks lent) r m (o .answer ∙ ap answerOf whole) steps
 
-module _ (d : Directory) (p c : List ℤ) (lent : ℕ) (h g : Half) (n : ℕ) (k : Kept)
+module _ (d : Directory) (p c : List ℤ) (lent : ℕ) (hs : Halves) (n : ℕ) (k : Kept)
     (e : Admits (not (eqb (length p) positionCount) || (not (eqb (length c) cashCount) || ltb lent stepLimit)) d n k) where
   abbrev settled : Call
-  settled = settle h g (blanks lent)
+  settled = settle hs (blanks lent)
 
   settle-early : n ≡ early (misfit settled (holding d p c)) d
   unfolding misfit
@@ -203,29 +203,29 @@ module _ (d : Directory) (p c : List ℤ) (lent : ℕ) (h g : Half) (n : ℕ) (k
   abbrev Settled : Reply → List ℤ → List ℤ → Outcome → Type 0
   Settled r left cash o = (r ≡ replyOf o) × (left ≡ o .store .positions) × (cash ≡ o .store .cash)
 
-  pub settlement-refused : n ≢ 0 → Settled (refusal n) p c (settlementOn d p c (blanks lent) h g)
+  pub settlement-refused : n ≢ 0 → Settled (refusal n) p c (settlementOn d p c (blanks lent) hs)
   settlement-refused ne =
       let o = early-refused settled (holding d p c) n settle-early ne in
-      (refusal-replied (settlementOn d p c (blanks lent) h g) n (ap answerOf o), sym (ap positionsOf o), sym (ap cashOf o))
+      (refusal-replied (settlementOn d p c (blanks lent) hs) n (ap answerOf o), sym (ap positionsOf o), sym (ap cashOf o))
 
-  module _ (z : n ≡ 0) (r : Answer) (left cash : List ℤ) (m : List ℕ) (o : Settles blankNumbers m (asked (k .numbers)) p c h g r left cash) where
-    the-booking : settledOn (holding d p c) (blanks lent) (settleInto blankNumbers (asked (k .numbers)) p c h g) ≡ core settled (holding d p c)
+  module _ (z : n ≡ 0) (r : Answer) (left cash : List ℤ) (m : List ℕ) (o : Settles blankNumbers m (asked (k .numbers)) p c hs r left cash) where
+    the-booking : settledOn (holding d p c) (blanks lent) (settleInto blankNumbers (asked (k .numbers)) p c hs) ≡ core settled (holding d p c)
     the-booking =
         ap (settledOn (holding d p c) (blanks lent))
-        (settle-fits blankNumbers (asked (k .numbers)) p c h g size ∙ ap (λ (l : Lookups). settleOutcome l p c h g) (same d k (e .keeps z)))
-        ∙ sym (core-settles (holding d p c) h g (blanks lent))
+        (settle-fits blankNumbers (asked (k .numbers)) p c hs size ∙ ap (λ (l : Lookups). settleOutcome l p c hs) (same d k (e .keeps z)))
+        ∙ sym (core-settles (holding d p c) hs (blanks lent))
 
     booked : r ≡ core settled (holding d p c) .answer
     booked = o .answer ∙ ap answerOf the-booking
 
     pub settlement-few : countOf r ≤ stepLimit
-    settlement-few = core-few (holding d p c) h g settles (blanks lent) r booked
+    settlement-few = core-few (holding d p c) hs settles (blanks lent) r booked
 
-    pub settlement-passed : Settled (replied r m) left cash (settlementOn d p c (blanks lent) h g)
+    pub settlement-passed : Settled (replied r m) left cash (settlementOn d p c (blanks lent) hs)
     settlement-passed =
         let whole = the-booking ∙ sym (early-passed settled (holding d p c) n settle-early z) in
         let steps = ap (λ (xs : List Step). written xs (blanks lent)) (o .steps) ∙ ap stepsLeft whole in (
-          steps-replied (settlementOn d p c (blanks lent) h g) (blanks lent) r m (o .answer ∙ ap answerOf whole) steps,
+          steps-replied (settlementOn d p c (blanks lent) hs) (blanks lent) r m (o .answer ∙ ap answerOf whole) steps,
           o .positions ∙ ap positionsOf whole,
           o .cash ∙ ap cashOf whole,
         )

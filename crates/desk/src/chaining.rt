@@ -11,12 +11,15 @@ use rules::ACCOUNTS;
 use rules::Answer;
 use rules::Directory;
 use rules::Half;
+use rules::Halves;
 use rules::POSITIONS;
 use rules::Reply;
 use rules::STEPS;
+use rules::SidedHalf;
 use rules::Step;
 use rules::Steps;
 ghost use mathlib.Core.Path.{_≡_};
+ghost use Rattle.rules.specs.declared.Halves.the-variants.{Ordered, Sided};
 ghost use Rattle.rules.specs.Chain.{stepLimit, step};
 ghost use Rattle.rules.specs.Outcomes.{settlementOn, derivationOn, blanks, replyOf, byValue, stepRows};
 ghost use Prim.Native.Nat.{_≤_, _<_};
@@ -105,11 +108,11 @@ fn finish(steps: &mut [Step], reply: Reply) -> Answer
     reply.answer
 }
 
-// ---- the calls
+// ---- the calls, their steps by value
 
-// A derivation that is lent `lent` steps.
-pub fn derive_reply(directory: Directory, lent: usize, delivering: Half, receiving: Half) -> Reply
-    ensures { λ r. ⌜ r ≡ replyOf (derivationOn directory (blanks lent) delivering receiving) ⌝ }
+// A derivation of two halves that is lent `lent` steps.
+fn derived(directory: Directory, lent: usize, halves: Halves) -> Reply
+    ensures { λ r. ⌜ r ≡ replyOf (derivationOn directory (blanks lent) halves) ⌝ }
 {
     let mut index: [u16; INDEX] = [0; INDEX];
     let mut names: [u8; NAMES] = [0; NAMES];
@@ -118,22 +121,21 @@ pub fn derive_reply(directory: Directory, lent: usize, delivering: Half, receivi
         return refused(number);
     }
     let mut numbers: [u16; STEP_NUMBERS] = [0; STEP_NUMBERS];
-    let answer = derivation::derive(&index, &mut numbers, delivering, receiving);
+    let answer = derivation::derive(&index, &mut numbers, halves);
     replied(answer, &numbers)
 }
 
-// A settlement that is lent `lent` steps.
-pub fn settle_reply(
+// A settlement of two halves that is lent `lent` steps.
+fn settled(
     directory: Directory,
     positions: &mut [i64],
     cash: &mut [i64],
     lent: usize,
-    delivering: Half,
-    receiving: Half,
+    halves: Halves,
 ) -> Reply
-    ensures { λ r. ⌜ (r ≡ replyOf (settlementOn directory (now (positions .entry)) (now (cash .entry)) (blanks lent) delivering receiving))
-        × (now (positions .exit) ≡ settlementOn directory (now (positions .entry)) (now (cash .entry)) (blanks lent) delivering receiving .store .positions)
-        × (now (cash .exit) ≡ settlementOn directory (now (positions .entry)) (now (cash .entry)) (blanks lent) delivering receiving .store .cash) ⌝ }
+    ensures { λ r. ⌜ (r ≡ replyOf (settlementOn directory (now (positions .entry)) (now (cash .entry)) (blanks lent) halves))
+        × (now (positions .exit) ≡ settlementOn directory (now (positions .entry)) (now (cash .entry)) (blanks lent) halves .store .positions)
+        × (now (cash .exit) ≡ settlementOn directory (now (positions .entry)) (now (cash .entry)) (blanks lent) halves .store .cash) ⌝ }
 {
     let mut index: [u16; INDEX] = [0; INDEX];
     let mut names: [u8; NAMES] = [0; NAMES];
@@ -143,13 +145,77 @@ pub fn settle_reply(
         return refused(number);
     }
     let mut numbers: [u16; STEP_NUMBERS] = [0; STEP_NUMBERS];
-    let answer = settling::settle(&index, positions, cash, &mut numbers, delivering, receiving);
+    let answer = settling::settle(&index, positions, cash, &mut numbers, halves);
     replied(answer, &numbers)
 }
 
-// The chain of two halves, with its steps by value: what a lent list of 16 blank steps would hold.
+// The chain of two halves, delivering first, for a caller that is lent `lent` steps.
+pub fn derive_reply(directory: Directory, lent: usize, delivering: Half, receiving: Half) -> Reply
+    ensures { λ r. ⌜ r ≡ replyOf (derivationOn directory (blanks lent) (Ordered delivering receiving)) ⌝ }
+{
+    derived(directory, lent, Halves::Ordered(delivering, receiving))
+}
+
+// The same of two halves with their sides, in either order.
+pub fn derive_sided_reply(
+    directory: Directory,
+    lent: usize,
+    first: SidedHalf,
+    second: SidedHalf,
+) -> Reply
+    ensures { λ r. ⌜ r ≡ replyOf (derivationOn directory (blanks lent) (Sided first second)) ⌝ }
+{
+    derived(directory, lent, Halves::Sided(first, second))
+}
+
+// Two halves booked, delivering first, for a caller that is lent `lent` steps.
+pub fn settle_reply(
+    directory: Directory,
+    positions: &mut [i64],
+    cash: &mut [i64],
+    lent: usize,
+    delivering: Half,
+    receiving: Half,
+) -> Reply
+    ensures { λ r. ⌜ (r ≡ replyOf (settlementOn directory (now (positions .entry)) (now (cash .entry)) (blanks lent) (Ordered delivering receiving)))
+        × (now (positions .exit)
+        ≡ settlementOn directory (now (positions .entry)) (now (cash .entry)) (blanks lent) (Ordered delivering receiving) .store .positions)
+        × (now (cash .exit) ≡ settlementOn directory (now (positions .entry)) (now (cash .entry)) (blanks lent) (Ordered delivering receiving) .store .cash) ⌝ }
+{
+    settled(
+        directory,
+        positions,
+        cash,
+        lent,
+        Halves::Ordered(delivering, receiving),
+    )
+}
+
+// The same of two halves with their sides, in either order.
+pub fn settle_sided_reply(
+    directory: Directory,
+    positions: &mut [i64],
+    cash: &mut [i64],
+    lent: usize,
+    first: SidedHalf,
+    second: SidedHalf,
+) -> Reply
+    ensures { λ r. ⌜ (r ≡ replyOf (settlementOn directory (now (positions .entry)) (now (cash .entry)) (blanks lent) (Sided first second)))
+        × (now (positions .exit) ≡ settlementOn directory (now (positions .entry)) (now (cash .entry)) (blanks lent) (Sided first second) .store .positions)
+        × (now (cash .exit) ≡ settlementOn directory (now (positions .entry)) (now (cash .entry)) (blanks lent) (Sided first second) .store .cash) ⌝ }
+{
+    settled(
+        directory,
+        positions,
+        cash,
+        lent,
+        Halves::Sided(first, second),
+    )
+}
+
+// The chain of two halves, delivering first, with its steps by value: what a lent list of 16 blank steps would hold.
 pub fn derive_by_value(directory: Directory, delivering: Half, receiving: Half) -> Reply
-    ensures { λ r. ⌜ r ≡ replyOf (derivationOn directory (blanks stepLimit) delivering receiving) ⌝ }
+    ensures { λ r. ⌜ r ≡ replyOf (derivationOn directory (blanks stepLimit) (Ordered delivering receiving)) ⌝ }
 {
     derive_reply(directory, STEPS, delivering, receiving)
 }
@@ -162,24 +228,41 @@ pub fn settle_by_value(
     delivering: Half,
     receiving: Half,
 ) -> Reply
-    ensures { λ r. ⌜ (r ≡ replyOf (settlementOn directory (now (positions .entry)) (now (cash .entry)) (blanks stepLimit) delivering receiving))
+    ensures { λ r. ⌜ (r ≡ replyOf (settlementOn directory (now (positions .entry)) (now (cash .entry)) (blanks stepLimit) (Ordered delivering receiving)))
         × (now (positions .exit)
-        ≡ settlementOn directory (now (positions .entry)) (now (cash .entry)) (blanks stepLimit) delivering receiving .store .positions)
-        × (now (cash .exit) ≡ settlementOn directory (now (positions .entry)) (now (cash .entry)) (blanks stepLimit) delivering receiving .store .cash) ⌝ }
+        ≡ settlementOn directory (now (positions .entry)) (now (cash .entry)) (blanks stepLimit) (Ordered delivering receiving) .store .positions)
+        × (now (cash .exit)
+        ≡ settlementOn directory (now (positions .entry)) (now (cash .entry)) (blanks stepLimit) (Ordered delivering receiving) .store .cash) ⌝ }
 {
     settle_reply(directory, positions, cash, STEPS, delivering, receiving)
 }
 
-// Derives the chain of two halves and writes its K steps to the start of the lent list.
+// ---- the calls, their steps in a lent list
+
+// Derives the chain of two halves, delivering first, and writes its K steps to the start of the lent list.
 pub fn derive(directory: Directory, steps: &mut [Step], delivering: Half, receiving: Half) -> Answer
-    ensures { λ r. ⌜ (r ≡ derivationOn directory (now (steps .entry)) delivering receiving .answer)
-        × (now (steps .exit) ≡ derivationOn directory (now (steps .entry)) delivering receiving .steps) ⌝ }
+    ensures { λ r. ⌜ (r ≡ derivationOn directory (now (steps .entry)) (Ordered delivering receiving) .answer)
+        × (now (steps .exit) ≡ derivationOn directory (now (steps .entry)) (Ordered delivering receiving) .steps) ⌝ }
 {
     let reply = derive_reply(directory, steps.len(), delivering, receiving);
     finish(steps, reply)
 }
 
-// Books two halves and writes the K steps of their chain to the start of the lent list.
+// The same of two halves with their sides, in either order.
+pub fn derive_sided(
+    directory: Directory,
+    steps: &mut [Step],
+    first: SidedHalf,
+    second: SidedHalf,
+) -> Answer
+    ensures { λ r. ⌜ (r ≡ derivationOn directory (now (steps .entry)) (Sided first second) .answer)
+        × (now (steps .exit) ≡ derivationOn directory (now (steps .entry)) (Sided first second) .steps) ⌝ }
+{
+    let reply = derive_sided_reply(directory, steps.len(), first, second);
+    finish(steps, reply)
+}
+
+// Books two halves, delivering first, and writes the K steps of their chain to the start of the lent list.
 pub fn settle(
     directory: Directory,
     positions: &mut [i64],
@@ -188,11 +271,12 @@ pub fn settle(
     delivering: Half,
     receiving: Half,
 ) -> Answer
-    ensures { λ r. ⌜ (r ≡ settlementOn directory (now (positions .entry)) (now (cash .entry)) (now (steps .entry)) delivering receiving .answer)
+    ensures { λ r. ⌜ (r ≡ settlementOn directory (now (positions .entry)) (now (cash .entry)) (now (steps .entry)) (Ordered delivering receiving) .answer)
         × (now (positions .exit)
-        ≡ settlementOn directory (now (positions .entry)) (now (cash .entry)) (now (steps .entry)) delivering receiving .store .positions)
-        × (now (cash .exit) ≡ settlementOn directory (now (positions .entry)) (now (cash .entry)) (now (steps .entry)) delivering receiving .store .cash)
-        × (now (steps .exit) ≡ settlementOn directory (now (positions .entry)) (now (cash .entry)) (now (steps .entry)) delivering receiving .steps) ⌝ }
+        ≡ settlementOn directory (now (positions .entry)) (now (cash .entry)) (now (steps .entry)) (Ordered delivering receiving) .store .positions)
+        × (now (cash .exit)
+        ≡ settlementOn directory (now (positions .entry)) (now (cash .entry)) (now (steps .entry)) (Ordered delivering receiving) .store .cash)
+        × (now (steps .exit) ≡ settlementOn directory (now (positions .entry)) (now (cash .entry)) (now (steps .entry)) (Ordered delivering receiving) .steps) ⌝ }
 {
     let reply = settle_reply(
         directory,
@@ -201,6 +285,31 @@ pub fn settle(
         steps.len(),
         delivering,
         receiving,
+    );
+    finish(steps, reply)
+}
+
+// The same of two halves with their sides, in either order.
+pub fn settle_sided(
+    directory: Directory,
+    positions: &mut [i64],
+    cash: &mut [i64],
+    steps: &mut [Step],
+    first: SidedHalf,
+    second: SidedHalf,
+) -> Answer
+    ensures { λ r. ⌜ (r ≡ settlementOn directory (now (positions .entry)) (now (cash .entry)) (now (steps .entry)) (Sided first second) .answer)
+        × (now (positions .exit) ≡ settlementOn directory (now (positions .entry)) (now (cash .entry)) (now (steps .entry)) (Sided first second) .store .positions)
+        × (now (cash .exit) ≡ settlementOn directory (now (positions .entry)) (now (cash .entry)) (now (steps .entry)) (Sided first second) .store .cash)
+        × (now (steps .exit) ≡ settlementOn directory (now (positions .entry)) (now (cash .entry)) (now (steps .entry)) (Sided first second) .steps) ⌝ }
+{
+    let reply = settle_sided_reply(
+        directory,
+        positions,
+        cash,
+        steps.len(),
+        first,
+        second,
     );
     finish(steps, reply)
 }

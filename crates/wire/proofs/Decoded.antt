@@ -8,8 +8,8 @@ use mathlib.Core.Option.{Option, none, some}
 use lib.ListN.{length}
 use Rattle.rules.specs.Entries.{csdRow, securityRow}
 use Rattle.rules.specs.Booking.{incoming, outgoing}
-use Rattle.rules.specs.Calls.{enter, move, pay, settle}
-use Rattle.rules.specs.Stream.{widths, widthOf, callOf, csdAt, securityAt, accountAt, pairAt, linkAt, halfAt, programSteps}
+use Rattle.rules.specs.Calls.{enter, move, pay, settle, derive}
+use Rattle.rules.specs.Stream.{widths, widthOf, callOf, csdAt, securityAt, accountAt, pairAt, linkAt, orderedAt, sidedAt, programSteps}
 use Rattle.wire.specs.Operands.{csdIn, securityIn, moveIn, paymentIn}
 use Rattle.wire.proofs.Padded.{padded-is}
 use Rattle.wire.proofs.Widths.{no-entry}
@@ -61,16 +61,24 @@ module _ (tag : ℕ) (o : List ℕ) where
   unfolding callOf
   pay-out-call e = rw e
 
-  pub settle-call : tag ≡ 10 → callOf tag o ≡ settle (halfAt o 0) (halfAt o 20) programSteps
+  pub settle-call : tag ≡ 10 → callOf tag o ≡ settle (orderedAt o) programSteps
   unfolding callOf
   settle-call e = rw e
 
+  pub derive-call : tag ≡ 11 → callOf tag o ≡ derive (orderedAt o) programSteps
+  unfolding callOf
+  derive-call e = rw e
+
+  pub settle-sided-call : tag ≡ 12 → callOf tag o ≡ settle (sidedAt o) programSteps
+  unfolding callOf
+  settle-sided-call e = rw e
+
 -- a byte with a width is a command
-pub known-tag : (tag w : ℕ) → widthOf tag ≡ some w → (1 ≤ tag) × (tag ≤ 11)
+pub known-tag : (tag w : ℕ) → widthOf tag ≡ some w → (1 ≤ tag) × (tag ≤ length widths)
 known-tag zero w e = let z : _≡_ {A = ℕ} 0 1 = cc in absurd (omega arith)
-known-tag (suc n) w e = go (decLt n 11)
+known-tag (suc n) w e = go (decLt n (length widths))
   where
-    go : Dec (n < 11) → (1 ≤ suc n) × (suc n ≤ 11)
+    go : Dec (n < length widths) → (1 ≤ suc n) × (suc n ≤ length widths)
     go (yes h) = (omega arith, omega arith)
     go (no h) =
         let f : widthOf (suc n) ≡ none = no-entry widths n (omega arith) in

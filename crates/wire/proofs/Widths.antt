@@ -25,8 +25,8 @@ module _ (tag : ℕ) (h : tag ≡ 0 → ⊥) where
       go zero f = absurd (f refl)
       go (suc t) f = omega arith
 
-  pub width-is : tag - 1 < 11 → widthOf tag ≡ some (getD widths (tag - 1) 0)
+  pub width-is : tag - 1 < length widths → widthOf tag ≡ some (getD widths (tag - 1) 0)
   width-is k = one-less ∙ entry-at widths (tag - 1) k
 
-  pub no-width : 11 ≤ tag - 1 → widthOf tag ≡ none
+  pub no-width : length widths ≤ tag - 1 → widthOf tag ≡ none
   no-width k = one-less ∙ no-entry widths (tag - 1) k

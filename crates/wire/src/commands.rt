@@ -18,7 +18,9 @@ pub enum Next {
     Command { tag: u8, start: usize, end: usize },
 }
 
-const WIDTHS: [usize; 11] = [12, 12, 2, 6, 7, 11, 11, 10, 10, 40, 40];
+const COMMANDS: usize = 13;
+
+const WIDTHS: [usize; COMMANDS] = [12, 12, 2, 6, 7, 11, 11, 10, 10, 40, 40, 42, 42];
 
 // The table's entries are for the bytes from 01 on.
 pub fn width_of(tag: u8) -> Width
@@ -28,7 +30,7 @@ pub fn width_of(tag: u8) -> Width
         return Width::NoCommand;
     }
     let i = (tag - 1) as usize;
-    if i < 11 {
+    if i < COMMANDS {
         Width::Bytes(WIDTHS[i])
     } else {
         Width::NoCommand

@@ -4,15 +4,17 @@ use rules::Account;
 use rules::BIC;
 use rules::Csd;
 use rules::Half;
+use rules::Halves;
 use rules::ISIN;
 use rules::Link;
 use rules::Pair;
 use rules::Security;
+use rules::SidedHalf;
 ghost use mathlib.Core.Path.{_≡_};
 ghost use Prim.Native.Nat.{_+_, _^_, _≤_, _<_};
 ghost use lib.ListN.{length, getD};
 ghost use Rattle.rules.specs.Entries.{accountRow, pairRow, linkRow};
-ghost use Rattle.rules.specs.Stream.{numberAt, accountAt, pairAt, linkAt, halfAt};
+ghost use Rattle.rules.specs.Stream.{numberAt, accountAt, pairAt, linkAt, halfAt, sidedHalfAt, orderedAt, sidedAt};
 ghost use Rattle.wire.specs.Operands.{paddedAt, csdIn, securityIn, moveIn, paymentIn};
 
 // The operands of 06 and 07.
@@ -27,6 +29,9 @@ pub struct Payment {
     pub account: u16,
     pub amount: u64,
 }
+
+// Bytes of a half.
+const HALF: usize = 20;
 
 fn byte_at(operands: &[u8], at: usize) -> u8
     ensures { λ r. ⌜ r ≡ getD (now (operands .entry)) at 0 ⌝ }
@@ -221,15 +226,30 @@ fn half_at(operands: &[u8], at: usize) -> Half
     }
 }
 
-// "0A settle, 0B derive: two halves, delivering first"
-pub fn decode_delivering(operands: &[u8]) -> Half
-    ensures { λ r. ⌜ r ≡ halfAt (now (operands .entry)) 0 ⌝ }
+// "one byte before each half"
+fn sided_half_at(operands: &[u8], at: usize) -> SidedHalf
+    requires { ⌜ at < 63 ⌝ }
+    ensures { λ r. ⌜ r ≡ sidedHalfAt (now (operands .entry)) at ⌝ }
 {
-    half_at(operands, 0)
+    let side = one_byte(operands, at);
+    let half = half_at(operands, at + 1);
+    SidedHalf { side, half }
 }
 
-pub fn decode_receiving(operands: &[u8]) -> Half
-    ensures { λ r. ⌜ r ≡ halfAt (now (operands .entry)) 20 ⌝ }
+// "0A settle, 0B derive: two halves, delivering first"
+pub fn decode_ordered(operands: &[u8]) -> Halves
+    ensures { λ r. ⌜ r ≡ orderedAt (now (operands .entry)) ⌝ }
 {
-    half_at(operands, 20)
+    let delivering = half_at(operands, 0);
+    let receiving = half_at(operands, HALF);
+    Halves::Ordered(delivering, receiving)
+}
+
+// "0C (settle) and 0D (derive) are 0A and 0B with one byte before each half"
+pub fn decode_sided(operands: &[u8]) -> Halves
+    ensures { λ r. ⌜ r ≡ sidedAt (now (operands .entry)) ⌝ }
+{
+    let first = sided_half_at(operands, 0);
+    let second = sided_half_at(operands, HALF + 1);
+    Halves::Sided(first, second)
 }

@@ -3,8 +3,8 @@ use borrow.Author.Needs.{needs}
 use mathlib.Core.Path.{_∙_}
 use Rattle.desk.proofs.Admitted.{nothing-kept}
 use Rattle.desk.proofs.Decided.{derivation-refused, derivation-few, derivation-passed}
-use Rattle.desk.proofs.chaining.derive_reply.Statement.{statement}
-use Rattle.desk.proofs.chaining.derive_reply.Tie as tie
+use Rattle.desk.proofs.chaining.derived.Statement.{statement}
+use Rattle.desk.proofs.chaining.derived.Tie as tie
 
 early-refusal-requires : tie.Need-early-refusal-requires
 early-refusal-requires c κs = nothing-kept
@@ -16,7 +16,7 @@ returns : tie.Need-returns
 returns c =
     let e = c .before in
     let a = e .before .before .before .before .args in
-    c .refused .ensures ∙ derivation-refused (a .directory) (a .lent) (a .delivering) (a .receiving) _ _ (e .before .early-refusal .ensures) (e .if1 .taken)
+    c .refused .ensures ∙ derivation-refused (a .directory) (a .lent) (a .halves) _ _ (e .before .early-refusal .ensures) (e .if1 .taken)
 
 slice-aggregate-derive : tie.Need-slice-aggregate-derive
 slice-aggregate-derive c = search needs
@@ -32,7 +32,7 @@ replied-requires c κs =
     let m = c .before .before in
     let e = m .before .before .before in
     let a = e .before .before .before .before .args in
-    derivation-few (a .directory) (a .lent) (a .delivering) (a .receiving) _ _ (e .before .early-refusal .ensures) (e .if1 .left) _ _ (m .derive .ensures)
+    derivation-few (a .directory) (a .lent) (a .halves) _ _ (e .before .early-refusal .ensures) (e .if1 .left) _ _ (m .derive .ensures)
 
 returns-2 : tie.Need-returns-2
 returns-2 c =
@@ -40,10 +40,10 @@ returns-2 c =
     let e = m .before .before .before in
     let a = e .before .before .before .before .args in
     c .replied .ensures
-    ∙ derivation-passed (a .directory) (a .lent) (a .delivering) (a .receiving) _ _ (e .before .early-refusal .ensures) (e .if1 .left) _ _ (m .derive .ensures)
+    ∙ derivation-passed (a .directory) (a .lent) (a .halves) _ _ (e .before .early-refusal .ensures) (e .if1 .left) _ _ (m .derive .ensures)
 
-pub derive-reply-spec : {M : Type 1} → statement M
-derive-reply-spec =
+pub derived-spec : {M : Type 1} → statement M
+derived-spec =
     tie.close
     (tie.spec
     early-refusal-requires
