@@ -110,8 +110,8 @@ fn finish(steps: &mut [Step], reply: Reply) -> Answer
 
 // ---- the calls, their steps by value
 
-// A derivation of two halves that is lent `lent` steps.
-fn derived(directory: Directory, lent: usize, halves: Halves) -> Reply
+// The chain of two halves, for a caller that is lent `lent` steps.
+pub fn derive_halves(directory: Directory, lent: usize, halves: Halves) -> Reply
     ensures { λ r. ⌜ r ≡ replyOf (derivationOn directory (blanks lent) halves) ⌝ }
 {
     let mut index: [u16; INDEX] = [0; INDEX];
@@ -125,8 +125,8 @@ fn derived(directory: Directory, lent: usize, halves: Halves) -> Reply
     replied(answer, &numbers)
 }
 
-// A settlement of two halves that is lent `lent` steps.
-fn settled(
+// Two halves booked, likewise.
+pub fn settle_halves(
     directory: Directory,
     positions: &mut [i64],
     cash: &mut [i64],
@@ -149,15 +149,15 @@ fn settled(
     replied(answer, &numbers)
 }
 
-// The chain of two halves, delivering first, for a caller that is lent `lent` steps.
+// The same of two halves that are given one by one, delivering first.
 pub fn derive_reply(directory: Directory, lent: usize, delivering: Half, receiving: Half) -> Reply
     ensures { λ r. ⌜ r ≡ replyOf (derivationOn directory (blanks lent) (Ordered delivering receiving)) ⌝ }
 {
-    derived(directory, lent, Halves::Ordered(delivering, receiving))
+    derive_halves(directory, lent, Halves::Ordered(delivering, receiving))
 }
 
-// The same of two halves with their sides, in either order.
-pub fn derive_sided_reply(
+// With their sides, in either order.
+fn derive_sided_reply(
     directory: Directory,
     lent: usize,
     first: SidedHalf,
@@ -165,10 +165,10 @@ pub fn derive_sided_reply(
 ) -> Reply
     ensures { λ r. ⌜ r ≡ replyOf (derivationOn directory (blanks lent) (Sided first second)) ⌝ }
 {
-    derived(directory, lent, Halves::Sided(first, second))
+    derive_halves(directory, lent, Halves::Sided(first, second))
 }
 
-// Two halves booked, delivering first, for a caller that is lent `lent` steps.
+// Two halves booked, delivering first.
 pub fn settle_reply(
     directory: Directory,
     positions: &mut [i64],
@@ -182,7 +182,7 @@ pub fn settle_reply(
         ≡ settlementOn directory (now (positions .entry)) (now (cash .entry)) (blanks lent) (Ordered delivering receiving) .store .positions)
         × (now (cash .exit) ≡ settlementOn directory (now (positions .entry)) (now (cash .entry)) (blanks lent) (Ordered delivering receiving) .store .cash) ⌝ }
 {
-    settled(
+    settle_halves(
         directory,
         positions,
         cash,
@@ -191,8 +191,8 @@ pub fn settle_reply(
     )
 }
 
-// The same of two halves with their sides, in either order.
-pub fn settle_sided_reply(
+// With their sides, in either order.
+fn settle_sided_reply(
     directory: Directory,
     positions: &mut [i64],
     cash: &mut [i64],
@@ -204,7 +204,7 @@ pub fn settle_sided_reply(
         × (now (positions .exit) ≡ settlementOn directory (now (positions .entry)) (now (cash .entry)) (blanks lent) (Sided first second) .store .positions)
         × (now (cash .exit) ≡ settlementOn directory (now (positions .entry)) (now (cash .entry)) (blanks lent) (Sided first second) .store .cash) ⌝ }
 {
-    settled(
+    settle_halves(
         directory,
         positions,
         cash,

@@ -10,7 +10,7 @@ use lib.Dec.{eqb}
 use lib.ListN.{length, take, drop, set, length-replicate}
 use lib.Seq.{take-append-seam}
 use Rattle.rules.specs.declared.Directory.{Directory}
-use Rattle.rules.specs.declared.Half.{Half}
+use Rattle.rules.specs.declared.Halves.{Halves}
 use Rattle.rules.specs.declared.Step.{Step}
 use Rattle.rules.specs.declared.Answer.{Answer}
 use Rattle.rules.specs.declared.Answer.the-variants.{Refused}
@@ -25,16 +25,16 @@ use Rattle.rules.specs.declared.CashTotal.the-variants.{SumCents, NoCents}
 use Rattle.rules.specs.Tests.{firstOf}
 use Rattle.rules.specs.Chain.{step}
 use Rattle.rules.specs.Calls.{Outcome, desk, isAccepted, lentSteps, deskSecurityTotal, deskCashTotal}
-use Rattle.rules.specs.Stream.{callOf, halfAt}
+use Rattle.rules.specs.Stream.{callOf}
 use Rattle.rules.specs.Outcomes.{holding, settlementOn, derivationOn, blanks, byValue, replyOf}
 use Rattle.rules.proofs.Basics.{eqb-true, eqb-false, and-true, and-untrue}
 use Rattle.desk.proofs.Lent as Lent
 use Rattle.layout.specs.Layout.{countsLength, rowsLength, directoryIn, countsOf, bytesOf, bytesIn, bytesOfSteps, filled, withSteps, stepsPut}
 use Rattle.layout.proofs.Bytes.{fills, steps-fit}
 use Rattle.probe.specs.Codes.{misfit, codeOf, unitsCode, centsCode}
-use Rattle.probe.specs.Exports.{fits, fitsSum, isEntry, isMove, width, callIn, lending, stepsLent, readConditions, enteredBy, chainOf}
+use Rattle.probe.specs.Exports.{fits, fitsSum, isEntry, isMove, isSettlement, isDerivation, width, callIn, halvesIn, lending, stepsLent, readConditions, enteredBy, chainOf}
 use Rattle.probe.specs.Exports.{enters, moves, settles, derives, unitsLeft, centsLeft, Enters, Moves, Settles, Derives}
-use Rattle.probe.proofs.Read.{cut-is, none-is, read-refused, read-passed}
+use Rattle.probe.proofs.Read.{cut-is, none-is, read-refused, read-passed, settlement-call, derivation-call}
 use Rattle.probe.proofs.Moves.{Leaves}
 
 -- ---- tests
@@ -103,26 +103,26 @@ module _ (counts rows : List ℕ) where
           let x = moves-unread ne in
           rw (f, x) (q, refl, refl)
 
-    module _ (o steps : List ℕ) (s : length o < 40) (code : ℕ) (q : code ≡ codeOf (Refused 2)) where
+    module _ (tag : ℕ) (o steps : List ℕ) (s : length o < width tag) (code : ℕ) (q : code ≡ codeOf (Refused 2)) where
       settles-cut : (p c : List ℤ)
-          → settles counts rows p c o steps
-          ≡ record { answer = Refused 2; store = holding (directoryIn counts rows) p c; steps = lentSteps (lending (stepsLent steps) (callIn 10 o)) }
+          → settles tag counts rows p c o steps
+          ≡ record { answer = Refused 2; store = holding (directoryIn counts rows) p c; steps = lentSteps (lending (stepsLent steps) (callIn tag o)) }
       unfolding settles
-      settles-cut p c = read-refused true 10 o 2 (cut-is true 10 o refl s) (lending (stepsLent steps) (callIn 10 o)) (holding (directoryIn counts rows) p c) (λ z. omega arith)
+      settles-cut p c = read-refused true tag o 2 (cut-is true tag o refl s) (lending (stepsLent steps) (callIn tag o)) (holding (directoryIn counts rows) p c) (λ z. omega arith)
 
       derives-cut :
-          derives counts rows o steps
-          ≡ record { answer = Refused 2; store = holding (directoryIn counts rows) [] []; steps = lentSteps (lending (stepsLent steps) (callIn 11 o)) }
+          derives tag counts rows o steps
+          ≡ record { answer = Refused 2; store = holding (directoryIn counts rows) [] []; steps = lentSteps (lending (stepsLent steps) (callIn tag o)) }
       unfolding derives
-      derives-cut = read-refused true 11 o 2 (cut-is true 11 o refl s) (lending (stepsLent steps) (callIn 11 o)) (holding (directoryIn counts rows) [] []) (λ z. omega arith)
+      derives-cut = read-refused true tag o 2 (cut-is true tag o refl s) (lending (stepsLent steps) (callIn tag o)) (holding (directoryIn counts rows) [] []) (λ z. omega arith)
 
-      pub settle-cut : (p c : List ℤ) → Settles counts rows p c o steps code p c steps
+      pub settle-cut : (p c : List ℤ) → Settles tag counts rows p c o steps code p c steps
       settle-cut p c =
           let f : fits counts rows ≡ true = fit in
           let x = settles-cut p c in
           rw (f, x) (q, refl, refl, no-steps steps)
 
-      pub derive-cut : Derives counts rows o steps code steps
+      pub derive-cut : Derives tag counts rows o steps code steps
       derive-cut =
           let f : fits counts rows ≡ true = fit in
           let x = derives-cut in
@@ -179,51 +179,50 @@ module _ (counts rows : List ℕ) where
 
       -- ---- a settlement or derivation
 
-      module _ (o steps : List ℕ) where
-        module _ (s : 40 ≤ length o) (part₁ part₂ : List ℕ) (p₁ : part₁ ≡ take 40 o) (p₂ : part₂ ≡ take 40 o) (h₁ h₂ : Half) (q₁ : h₁ ≡ halfAt part₁ 0) (q₂ : h₂ ≡ halfAt part₂ 20)
-            (r : Reply) (code : ℕ) (bytes : List ℕ) (a : (code ≡ codeOf (r .answer)) × (bytes ≡ stepsPut (r .steps) steps)) where
-          settles-is : (p c : List ℤ) → settlementOn d p c (stepsLent steps) h₁ h₂ ≡ settles counts rows p c o steps
-          unfolding settles callOf
-          settles-is p c =
-              rw (e, q₁, q₂, p₁, p₂)
-              (sym (read-passed true 10 o 0 (none-is true 10 o refl s) (lending (stepsLent steps) (callIn 10 o)) (holding (directoryIn counts rows) p c) refl))
+      module _ (tag : ℕ) (o steps : List ℕ) (s : width tag ≤ length o) (part : List ℕ) (g : part ≡ take (width tag) o) (hs : Halves) (u : hs ≡ halvesIn tag part)
+          (r : Reply) (code : ℕ) (bytes : List ℕ) (a : (code ≡ codeOf (r .answer)) × (bytes ≡ stepsPut (r .steps) steps)) where
+        settles-is : isSettlement tag ≡ true → (p c : List ℤ) → settlementOn d p c (stepsLent steps) hs ≡ settles tag counts rows p c o steps
+        unfolding settles
+        settles-is t p c =
+            rw (e, u, g, ← settlement-call tag (take (width tag) o) (stepsLent steps) t)
+            (sym (read-passed true tag o 0 (none-is true tag o refl s) (lending (stepsLent steps) (callIn tag o)) (holding (directoryIn counts rows) p c) refl))
 
-          derives-is : derivationOn d (stepsLent steps) h₁ h₂ ≡ derives counts rows o steps
-          unfolding derives callOf
-          derives-is =
-              rw (e, q₁, q₂, p₁, p₂)
-              (sym (read-passed true 11 o 0 (none-is true 11 o refl s) (lending (stepsLent steps) (callIn 11 o)) (holding (directoryIn counts rows) [] []) refl))
+        derives-is : isDerivation tag ≡ true → derivationOn d (stepsLent steps) hs ≡ derives tag counts rows o steps
+        unfolding derives
+        derives-is t =
+            rw (e, u, g, ← derivation-call tag (take (width tag) o) (stepsLent steps) t)
+            (sym (read-passed true tag o 0 (none-is true tag o refl s) (lending (stepsLent steps) (callIn tag o)) (holding (directoryIn counts rows) [] []) refl))
 
-          -- the bytes of the K steps, of which there are no more than were lent
-          written : (x : Outcome) → r ≡ replyOf x → r .steps .count ≤ 16 → r .steps .count ≤ length (stepsLent steps) → bytes ≡ withSteps (chainOf x) steps
-          written x i few room =
-              let l : r .steps ≡ byValue (chainOf x) = ap (λ (y : Reply). y .steps) i in
-              a .1 ∙ rw l (all-steps (chainOf x) steps (rw l at few) (rw (l, length-replicate (length steps / 5) (step 0 0 0)) at room))
+        -- the bytes of the K steps, of which there are no more than were lent
+        written : (x : Outcome) → r ≡ replyOf x → r .steps .count ≤ 16 → r .steps .count ≤ length (stepsLent steps) → bytes ≡ withSteps (chainOf x) steps
+        written x i few room =
+            let l : r .steps ≡ byValue (chainOf x) = ap (λ (y : Reply). y .steps) i in
+            a .1 ∙ rw l (all-steps (chainOf x) steps (rw l at few) (rw (l, length-replicate (length steps / 5) (step 0 0 0)) at room))
 
-          pub derived : r ≡ replyOf (derivationOn d (stepsLent steps) h₁ h₂) → Derives counts rows o steps code bytes
-          derived i =
-              let f : fits counts rows ≡ true = fit in
-              let v = Lent.serves (holding d [] []) h₁ h₂ Lent.derives (stepsLent steps) (stepsLent steps) refl r i in
-              let w = written (derivationOn d (stepsLent steps) h₁ h₂) i (v .few) (v .room) in (
-                rw f (a .0 ∙ ap (λ (y : Reply). codeOf (y .answer)) i ∙ ap (λ (x : Outcome). codeOf (x .answer)) derives-is),
-                rw f (w ∙ ap (λ (x : Outcome). withSteps (chainOf x) steps) derives-is),
-              )
+        pub derived : isDerivation tag ≡ true → r ≡ replyOf (derivationOn d (stepsLent steps) hs) → Derives tag counts rows o steps code bytes
+        derived t i =
+            let f : fits counts rows ≡ true = fit in
+            let v = Lent.serves (holding d [] []) hs Lent.derives (stepsLent steps) (stepsLent steps) refl r i in
+            let w = written (derivationOn d (stepsLent steps) hs) i (v .few) (v .room) in (
+              rw f (a .0 ∙ ap (λ (y : Reply). codeOf (y .answer)) i ∙ ap (λ (x : Outcome). codeOf (x .answer)) (derives-is t)),
+              rw f (w ∙ ap (λ (x : Outcome). withSteps (chainOf x) steps) (derives-is t)),
+            )
 
-          pub settled : (positions cash p c : List ℤ)
-              → (r ≡ replyOf (settlementOn d positions cash (stepsLent steps) h₁ h₂))
-              × (p ≡ settlementOn d positions cash (stepsLent steps) h₁ h₂ .store .positions)
-              × (c ≡ settlementOn d positions cash (stepsLent steps) h₁ h₂ .store .cash)
-              → Settles counts rows positions cash o steps code p c bytes
-          settled positions cash p c i =
-              let f : fits counts rows ≡ true = fit in
-              let v = Lent.serves (holding d positions cash) h₁ h₂ Lent.settles (stepsLent steps) (stepsLent steps) refl r (i .0) in
-              let w = written (settlementOn d positions cash (stepsLent steps) h₁ h₂) (i .0) (v .few) (v .room) in
-              let g = settles-is positions cash in (
-                rw f (a .0 ∙ ap (λ (y : Reply). codeOf (y .answer)) (i .0) ∙ ap (λ (x : Outcome). codeOf (x .answer)) g),
-                rw f (i .1 ∙ ap (λ (x : Outcome). x .store .positions) g),
-                rw f (i .2 ∙ ap (λ (x : Outcome). x .store .cash) g),
-                rw f (w ∙ ap (λ (x : Outcome). withSteps (chainOf x) steps) g),
-              )
+        pub settled : isSettlement tag ≡ true → (positions cash p c : List ℤ)
+            → (r ≡ replyOf (settlementOn d positions cash (stepsLent steps) hs))
+            × (p ≡ settlementOn d positions cash (stepsLent steps) hs .store .positions)
+            × (c ≡ settlementOn d positions cash (stepsLent steps) hs .store .cash)
+            → Settles tag counts rows positions cash o steps code p c bytes
+        settled t positions cash p c i =
+            let f : fits counts rows ≡ true = fit in
+            let v = Lent.serves (holding d positions cash) hs Lent.settles (stepsLent steps) (stepsLent steps) refl r (i .0) in
+            let w = written (settlementOn d positions cash (stepsLent steps) hs) (i .0) (v .few) (v .room) in
+            let x = settles-is t positions cash in (
+              rw f (a .0 ∙ ap (λ (y : Reply). codeOf (y .answer)) (i .0) ∙ ap (λ (y : Outcome). codeOf (y .answer)) x),
+              rw f (i .1 ∙ ap (λ (y : Outcome). y .store .positions) x),
+              rw f (i .2 ∙ ap (λ (y : Outcome). y .store .cash) x),
+              rw f (w ∙ ap (λ (y : Outcome). withSteps (chainOf y) steps) x),
+            )
 
       -- ---- the total of a security
 

@@ -3,23 +3,24 @@
 use Prim.Native.Nat.{ℕ, zero, suc, _≤_, _<_}
 use native.Mathlib.Omega.{arith}
 use mathlib.Core.Path.{_≡_, refl, sym, ap, _∙_}
-use mathlib.Core.Logic.{_≢_}
+use mathlib.Core.Logic.{_≢_, _⊎_, inl, inr}
 use mathlib.Core.Bool.{Bool, true, false, not}
 use mathlib.Core.List.{List, [], _∷_}
 use mathlib.Core.Option.{Option, none, some}
-use lib.Dec.{leb, ltb}
+use lib.Dec.{eqb, leb, ltb}
 use lib.ListN.{length, take}
 use lib.Seq.{length-take-le}
 use borrow.Author.Tests.{lt-ltb, le-ltb}
 use Rattle.rules.specs.declared.Answer.the-variants.{Refused}
+use Rattle.rules.specs.declared.Step.{Step}
 use Rattle.rules.specs.Tests.{Condition, _when_, firstOf}
-use Rattle.rules.specs.Calls.{Store, Call, outcome, lentSteps, deskConditions, desk}
-use Rattle.rules.specs.Stream.{widthOf}
-use Rattle.rules.proofs.Basics.{and-both, leb-is, ltb-not}
+use Rattle.rules.specs.Calls.{Store, Call, settle, derive, outcome, lentSteps, deskConditions, desk}
+use Rattle.rules.specs.Stream.{widthOf, callOf}
+use Rattle.rules.proofs.Basics.{and-both, or-cases, eqb-is, leb-is, ltb-not}
 use Rattle.wire.specs.declared.commands.Width.the-variants.{Bytes, NoCommand}
 use Rattle.wire.specs.Commands.{widthIn}
 use Rattle.wire.proofs.Widths.{width-is}
-use Rattle.probe.specs.Exports.{isEntry, isMove, asked, width, readConditions, obeyed}
+use Rattle.probe.specs.Exports.{isEntry, isMove, isSettlement, isDerivation, asked, width, halvesIn, lending, readConditions, obeyed}
 
 -- ---- the two numbers
 
@@ -100,3 +101,34 @@ whole tag o e h =
     let t = entry-tag tag e in
     let w = width-is tag (λ z. omega arith) (omega arith) in
     w ∙ ap some (sym (ap asked w) ∙ sym (length-take-le (width tag) o h))
+
+-- ---- the calls of two halves
+settlement-tag : (tag : ℕ) → isSettlement tag ≡ true → (tag ≡ 10) ⊎ (tag ≡ 12)
+settlement-tag tag e = go (or-cases (eqb tag 10) (eqb tag 12) e)
+  where
+    go : (eqb tag 10 ≡ true) ⊎ (eqb tag 12 ≡ true) → (tag ≡ 10) ⊎ (tag ≡ 12)
+    go (inl k) = inl (eqb-is tag 10 k)
+    go (inr k) = inr (eqb-is tag 12 k)
+
+derivation-tag : (tag : ℕ) → isDerivation tag ≡ true → (tag ≡ 11) ⊎ (tag ≡ 13)
+derivation-tag tag e = go (or-cases (eqb tag 11) (eqb tag 13) e)
+  where
+    go : (eqb tag 11 ≡ true) ⊎ (eqb tag 13 ≡ true) → (tag ≡ 11) ⊎ (tag ≡ 13)
+    go (inl k) = inl (eqb-is tag 11 k)
+    go (inr k) = inr (eqb-is tag 13 k)
+
+pub settlement-call : (tag : ℕ) (o : List ℕ) (xs : List Step) → isSettlement tag ≡ true → lending xs (callOf tag o) ≡ settle (halvesIn tag o) xs
+unfolding callOf
+settlement-call tag o xs e = go (settlement-tag tag e)
+  where
+    go : (tag ≡ 10) ⊎ (tag ≡ 12) → lending xs (callOf tag o) ≡ settle (halvesIn tag o) xs
+    go (inl k) = rw k
+    go (inr k) = rw k
+
+pub derivation-call : (tag : ℕ) (o : List ℕ) (xs : List Step) → isDerivation tag ≡ true → lending xs (callOf tag o) ≡ derive (halvesIn tag o) xs
+unfolding callOf
+derivation-call tag o xs e = go (derivation-tag tag e)
+  where
+    go : (tag ≡ 11) ⊎ (tag ≡ 13) → lending xs (callOf tag o) ≡ derive (halvesIn tag o) xs
+    go (inl k) = rw k
+    go (inr k) = rw k

@@ -1,7 +1,7 @@
 -- What each export answers and leaves, by the buffers that it is handed. Assumes nothing.
 use Prim.Native.Nat.{ℕ, _/_}
 use mathlib.Core.Path.{_≡_}
-use mathlib.Core.Bool.{Bool, true, _&&_, not, cond}
+use mathlib.Core.Bool.{Bool, true, _&&_, _||_, not, cond}
 use mathlib.Core.List.{List, [], _∷_, _++_}
 use mathlib.Core.Option.{Option, none, some}
 use lib.IntN.{ℤ}
@@ -9,6 +9,7 @@ use lib.Dec.{eqb, leb, ltb}
 use lib.ListN.{length, set, take}
 use Rattle.rules.specs.declared.Step.{Step}
 use Rattle.rules.specs.declared.Entered.{Entered}
+use Rattle.rules.specs.declared.Halves.{Halves}
 use Rattle.rules.specs.declared.SecurityTotal.{SecurityTotal}
 use Rattle.rules.specs.declared.SecurityTotal.the-variants.{SumUnits, NoUnits}
 use Rattle.rules.specs.declared.CashTotal.{CashTotal}
@@ -16,7 +17,7 @@ use Rattle.rules.specs.declared.CashTotal.the-variants.{SumCents, NoCents}
 use Rattle.rules.specs.Tests.{Condition, _when_, firstOf}
 use Rattle.rules.specs.Calls.{Store, Call, enter, move, pay, settle, derive, Outcome, outcome, deskConditions, isAccepted, countOf}
 use Rattle.rules.specs.Calls.{deskSecurityTotal, deskCashTotal}
-use Rattle.rules.specs.Stream.{widthOf, callOf}
+use Rattle.rules.specs.Stream.{widthOf, callOf, orderedAt, sidedAt}
 use Rattle.rules.specs.Outcomes.{holding, blanks}
 use Rattle.layout.specs.Layout.{countsLength, rowsLength, stepWidth, directoryIn, countsOf, bytesOf, withSteps}
 use Rattle.probe.specs.Codes.{misfit, codeOf, unitsCode, centsCode}
@@ -39,6 +40,14 @@ isEntry tag = leb 1 tag && leb tag 5
 abbrev pub isMove : ℕ → Bool
 isMove tag = leb 6 tag && leb tag 9
 
+-- 0A and 0C settle
+abbrev pub isSettlement : ℕ → Bool
+isSettlement tag = eqb tag 10 || eqb tag 12
+
+-- 0B and 0D derive
+abbrev pub isDerivation : ℕ → Bool
+isDerivation tag = eqb tag 11 || eqb tag 13
+
 -- as many bytes as are asked for, none for an unknown byte
 abbrev pub asked : Option ℕ → ℕ
 asked none = 0
@@ -52,13 +61,17 @@ width tag = asked (widthOf tag)
 abbrev pub callIn : ℕ → List ℕ → Call
 callIn tag o = callOf tag (take (width tag) o)
 
+-- two halves as the byte has them: "delivering first" below 0C, with their sides from there on
+abbrev pub halvesIn : ℕ → List ℕ → Halves
+halvesIn tag o = cond (ltb tag 12) (orderedAt o) (sidedAt o)
+
 -- the call with the step list that it is lent
 abbrev pub lending : List Step → Call → Call
 lending xs (enter x) = enter x
 lending xs (move w a s q) = move w a s q
 lending xs (pay w a m) = pay w a m
-lending xs (settle h g lent) = settle h g xs
-lending xs (derive h g lent) = derive h g xs
+lending xs (settle hs lent) = settle hs xs
+lending xs (derive hs lent) = derive hs xs
 
 -- a step for each five bytes lent; what they hold counts for nothing
 abbrev pub stepsLent : List ℕ → List Step
@@ -86,13 +99,13 @@ enters counts rows tag o = obeyed (isEntry tag) tag o (callIn tag o) (holding (d
 unfoldable pub moves : List ℕ → List ℕ → List ℤ → List ℤ → ℕ → List ℕ → Outcome
 moves counts rows p c tag o = obeyed (isMove tag) tag o (callIn tag o) (holding (directoryIn counts rows) p c)
 
--- a settlement, 0A
-unfoldable pub settles : List ℕ → List ℕ → List ℤ → List ℤ → List ℕ → List ℕ → Outcome
-settles counts rows p c o steps = obeyed true 10 o (lending (stepsLent steps) (callIn 10 o)) (holding (directoryIn counts rows) p c)
+-- a settlement, by its byte
+unfoldable pub settles : ℕ → List ℕ → List ℕ → List ℤ → List ℤ → List ℕ → List ℕ → Outcome
+settles tag counts rows p c o steps = obeyed true tag o (lending (stepsLent steps) (callIn tag o)) (holding (directoryIn counts rows) p c)
 
--- a derivation, 0B
-unfoldable pub derives : List ℕ → List ℕ → List ℕ → List ℕ → Outcome
-derives counts rows o steps = obeyed true 11 o (lending (stepsLent steps) (callIn 11 o)) (holding (directoryIn counts rows) [] [])
+-- a derivation, by its byte
+unfoldable pub derives : ℕ → List ℕ → List ℕ → List ℕ → List ℕ → Outcome
+derives tag counts rows o steps = obeyed true tag o (lending (stepsLent steps) (callIn tag o)) (holding (directoryIn counts rows) [] [])
 
 -- the chain's K steps; a refusal has none
 abbrev pub chainOf : Outcome → List Step
@@ -125,18 +138,18 @@ Moves counts rows p c tag o r p′ c′ =
     × (c′ ≡ cond (fits counts rows) (moves counts rows p c tag o .store .cash) c)
 
 -- likewise, and the K steps stand at the front of the bytes lent for them, "the rest untouched"
-abbrev pub Settles : List ℕ → List ℕ → List ℤ → List ℤ → List ℕ → List ℕ → ℕ → List ℤ → List ℤ → List ℕ → Type 0
-Settles counts rows p c o steps r p′ c′ steps′ =
-    (r ≡ cond (fits counts rows) (codeOf (settles counts rows p c o steps .answer)) misfit)
-    × (p′ ≡ cond (fits counts rows) (settles counts rows p c o steps .store .positions) p)
-    × (c′ ≡ cond (fits counts rows) (settles counts rows p c o steps .store .cash) c)
-    × (steps′ ≡ cond (fits counts rows) (withSteps (chainOf (settles counts rows p c o steps)) steps) steps)
+abbrev pub Settles : ℕ → List ℕ → List ℕ → List ℤ → List ℤ → List ℕ → List ℕ → ℕ → List ℤ → List ℤ → List ℕ → Type 0
+Settles tag counts rows p c o steps r p′ c′ steps′ =
+    (r ≡ cond (fits counts rows) (codeOf (settles tag counts rows p c o steps .answer)) misfit)
+    × (p′ ≡ cond (fits counts rows) (settles tag counts rows p c o steps .store .positions) p)
+    × (c′ ≡ cond (fits counts rows) (settles tag counts rows p c o steps .store .cash) c)
+    × (steps′ ≡ cond (fits counts rows) (withSteps (chainOf (settles tag counts rows p c o steps)) steps) steps)
 
 -- the steps alone
-abbrev pub Derives : List ℕ → List ℕ → List ℕ → List ℕ → ℕ → List ℕ → Type 0
-Derives counts rows o steps r steps′ =
-    (r ≡ cond (fits counts rows) (codeOf (derives counts rows o steps .answer)) misfit)
-    × (steps′ ≡ cond (fits counts rows) (withSteps (chainOf (derives counts rows o steps)) steps) steps)
+abbrev pub Derives : ℕ → List ℕ → List ℕ → List ℕ → List ℕ → ℕ → List ℕ → Type 0
+Derives tag counts rows o steps r steps′ =
+    (r ≡ cond (fits counts rows) (codeOf (derives tag counts rows o steps .answer)) misfit)
+    × (steps′ ≡ cond (fits counts rows) (withSteps (chainOf (derives tag counts rows o steps)) steps) steps)
 
 -- the total of a security
 abbrev pub TotalsUnits : List ℕ → List ℕ → List ℤ → ℕ → List ℤ → ℕ → List ℤ → Type 0

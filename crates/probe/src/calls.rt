@@ -12,6 +12,7 @@ use rules::Answer;
 use rules::CashTotal;
 use rules::Directory;
 use rules::Entered;
+use rules::Halves;
 use rules::Reply;
 use rules::SecurityTotal;
 use wire::commands::Width;
@@ -29,14 +30,11 @@ ghost use Rattle.rules.specs.Stream.{widthOf, callOf, transcript, Printed};
 ghost use Rattle.rules.specs.Outcomes.{holding};
 ghost use Rattle.layout.specs.Layout.{stepsPut};
 ghost use Rattle.probe.specs.Codes.{capped, codeOf};
-ghost use Rattle.probe.specs.Exports.{isEntry, isMove, width, readConditions, enteredBy};
+ghost use Rattle.probe.specs.Exports.{isEntry, isMove, isSettlement, isDerivation, width, halvesIn, readConditions, enteredBy};
 ghost use Rattle.probe.specs.Exports.{Enters, Moves, Settles, Derives, TotalsUnits, TotalsCents};
 
 // Counts, rows or the place of a sum do not fit.
 const MISFIT: u64 = 1280;
-
-// Bytes of two halves, the operands of 0A and 0B.
-const HALVES: usize = 40;
 
 fn small(k: usize) -> u64
     ensures { λ r. ⌜ (r ≡ capped k) × (r < 256) ⌝ }
@@ -208,7 +206,17 @@ pub extern "C" fn fluzzam_move(
     code_of(movement(directory, positions, cash, tag, &bytes[..end]))
 }
 
-// ---- 0A and 0B
+// ---- 0A to 0D
+
+// Two halves as the byte has them, delivering first or with their sides.
+fn halves_in(tag: u8, operands: &[u8]) -> Halves
+    ensures { λ r. ⌜ r ≡ halvesIn tag (now (operands .entry)) ⌝ }
+{
+    if tag < 12 {
+        return operands::decode_ordered(operands);
+    }
+    operands::decode_sided(operands)
+}
 
 fn replied(steps: &mut [u8], reply: Reply) -> u64
     ensures { λ r. ⌜ (r ≡ codeOf (reply .answer)) × (now (steps .exit) ≡ stepsPut (reply .steps) (now (steps .entry))) ⌝ }
@@ -218,7 +226,60 @@ fn replied(steps: &mut [u8], reply: Reply) -> u64
     code_of(answer)
 }
 
-// 0A. A step is lent for each five bytes of `steps`; the K steps of the chain go to its front.
+// A step is lent for each five bytes of `steps`; the K steps of the chain go to its front.
+fn settle(
+    counts: &[usize],
+    rows: &[u8],
+    positions: &mut [i64],
+    cash: &mut [i64],
+    tag: u8,
+    bytes: &[u8],
+    steps: &mut [u8],
+) -> u64
+    requires { ⌜ isSettlement tag ≡ true ⌝ }
+    ensures { λ r. ⌜ Settles tag (now (counts .entry)) (now (rows .entry)) (now (positions .entry)) (now (cash .entry)) (now (bytes .entry))
+        (now (steps .entry)) r (now (positions .exit)) (now (cash .exit)) (now (steps .exit)) ⌝ }
+{
+    if counts.len() != COUNTS {
+        return MISFIT;
+    }
+    if rows.len() != ROWS {
+        return MISFIT;
+    }
+    let end = width(tag);
+    if bytes.len() < end {
+        return code_of(Answer::Refused(2));
+    }
+    let directory = read_directory(counts, rows);
+    let halves = halves_in(tag, &bytes[..end]);
+    let lent = steps.len() / STEP_WIDTH;
+    let reply = desk::settle_halves(directory, positions, cash, lent, halves);
+    replied(steps, reply)
+}
+
+// Likewise.
+fn derive(counts: &[usize], rows: &[u8], tag: u8, bytes: &[u8], steps: &mut [u8]) -> u64
+    requires { ⌜ isDerivation tag ≡ true ⌝ }
+    ensures { λ r. ⌜ Derives tag (now (counts .entry)) (now (rows .entry)) (now (bytes .entry)) (now (steps .entry)) r (now (steps .exit)) ⌝ }
+{
+    if counts.len() != COUNTS {
+        return MISFIT;
+    }
+    if rows.len() != ROWS {
+        return MISFIT;
+    }
+    let end = width(tag);
+    if bytes.len() < end {
+        return code_of(Answer::Refused(2));
+    }
+    let directory = read_directory(counts, rows);
+    let halves = halves_in(tag, &bytes[..end]);
+    let lent = steps.len() / STEP_WIDTH;
+    let reply = desk::derive_halves(directory, lent, halves);
+    replied(steps, reply)
+}
+
+// 0A.
 #[no_mangle]
 pub extern "C" fn fluzzam_settle(
     counts: &[usize],
@@ -228,27 +289,29 @@ pub extern "C" fn fluzzam_settle(
     bytes: &[u8],
     steps: &mut [u8],
 ) -> u64
-    ensures { λ r. ⌜ Settles (now (counts .entry)) (now (rows .entry)) (now (positions .entry)) (now (cash .entry)) (now (bytes .entry))
+    ensures { λ r. ⌜ Settles 10 (now (counts .entry)) (now (rows .entry)) (now (positions .entry)) (now (cash .entry)) (now (bytes .entry))
         (now (steps .entry)) r (now (positions .exit)) (now (cash .exit)) (now (steps .exit)) ⌝ }
 {
-    if counts.len() != COUNTS {
-        return MISFIT;
-    }
-    if rows.len() != ROWS {
-        return MISFIT;
-    }
-    if bytes.len() < HALVES {
-        return code_of(Answer::Refused(2));
-    }
-    let directory = read_directory(counts, rows);
-    let delivering = operands::decode_delivering(&bytes[..HALVES]);
-    let receiving = operands::decode_receiving(&bytes[..HALVES]);
-    let lent = steps.len() / STEP_WIDTH;
-    let reply = desk::settle_reply(directory, positions, cash, lent, delivering, receiving);
-    replied(steps, reply)
+    settle(counts, rows, positions, cash, 10, bytes, steps)
 }
 
-// 0B, likewise.
+// 0C.
+#[no_mangle]
+pub extern "C" fn fluzzam_settle_sided(
+    counts: &[usize],
+    rows: &[u8],
+    positions: &mut [i64],
+    cash: &mut [i64],
+    bytes: &[u8],
+    steps: &mut [u8],
+) -> u64
+    ensures { λ r. ⌜ Settles 12 (now (counts .entry)) (now (rows .entry)) (now (positions .entry)) (now (cash .entry)) (now (bytes .entry))
+        (now (steps .entry)) r (now (positions .exit)) (now (cash .exit)) (now (steps .exit)) ⌝ }
+{
+    settle(counts, rows, positions, cash, 12, bytes, steps)
+}
+
+// 0B.
 #[no_mangle]
 pub extern "C" fn fluzzam_derive(
     counts: &[usize],
@@ -256,23 +319,22 @@ pub extern "C" fn fluzzam_derive(
     bytes: &[u8],
     steps: &mut [u8],
 ) -> u64
-    ensures { λ r. ⌜ Derives (now (counts .entry)) (now (rows .entry)) (now (bytes .entry)) (now (steps .entry)) r (now (steps .exit)) ⌝ }
+    ensures { λ r. ⌜ Derives 11 (now (counts .entry)) (now (rows .entry)) (now (bytes .entry)) (now (steps .entry)) r (now (steps .exit)) ⌝ }
 {
-    if counts.len() != COUNTS {
-        return MISFIT;
-    }
-    if rows.len() != ROWS {
-        return MISFIT;
-    }
-    if bytes.len() < HALVES {
-        return code_of(Answer::Refused(2));
-    }
-    let directory = read_directory(counts, rows);
-    let delivering = operands::decode_delivering(&bytes[..HALVES]);
-    let receiving = operands::decode_receiving(&bytes[..HALVES]);
-    let lent = steps.len() / STEP_WIDTH;
-    let reply = desk::derive_reply(directory, lent, delivering, receiving);
-    replied(steps, reply)
+    derive(counts, rows, 11, bytes, steps)
+}
+
+// 0D.
+#[no_mangle]
+pub extern "C" fn fluzzam_derive_sided(
+    counts: &[usize],
+    rows: &[u8],
+    bytes: &[u8],
+    steps: &mut [u8],
+) -> u64
+    ensures { λ r. ⌜ Derives 13 (now (counts .entry)) (now (rows .entry)) (now (bytes .entry)) (now (steps .entry)) r (now (steps .exit)) ⌝ }
+{
+    derive(counts, rows, 13, bytes, steps)
 }
 
 // ---- the totals and the program

@@ -8,7 +8,7 @@ use Prim.Native.Nat.{ℕ, zero, suc, _+_, _*_, _<_, _≤_}
 use native.Mathlib.Omega.{arith}
 use lib.ListN.{length, take, drop, length-take}
 use lib.Seq.{take-append-seam}
-use Rattle.rules.specs.declared.Half.{Half}
+use Rattle.rules.specs.declared.Halves.{Halves}
 use Rattle.rules.specs.declared.Step.{Step}
 use Rattle.rules.specs.declared.Answer.{Answer}
 use Rattle.rules.specs.declared.Answer.the-variants.{Accepted, Booked, Chained, Refused}
@@ -16,7 +16,7 @@ use Rattle.rules.specs.Tests.{firstOf}
 use Rattle.rules.specs.Directory.{Rows, rowsOf}
 use Rattle.rules.specs.Lookups.{ask}
 use Rattle.rules.specs.Chain.{chained, stepsOf, chainConditions, stepLimit}
-use Rattle.rules.specs.Calls.{Store, Call, enter, move, pay, settle, derive, outcome, desk, deskConditions, deriveConditions, bookConditions, halvesConditions, halvesChain, success, lentSteps, written, writtenFor, countOf, numberOf, isAccepted}
+use Rattle.rules.specs.Calls.{Store, Call, enter, move, pay, settle, derive, outcome, desk, deskConditions, deriveConditions, bookConditions, delivering, receiving, sideUnknown, sameSide, halvesConditions, halvesChain, success, lentSteps, written, writtenFor, countOf, numberOf, isAccepted}
 use Rattle.rules.specs.Stream.{stepLine, said, widthOf, callOf, programSteps}
 use Rattle.rules.proofs.Basics.{Quiet}
 use Rattle.rules.proofs.Facts.{Facts}
@@ -40,7 +40,7 @@ small-line x h =
     omega (arith, step-long x, short-decimal 1 (x .csd) (omega (arith, h .csd)), short-decimal 2 (x .debited) (omega (arith, h .debited)), short-decimal 2 (x .credited) (omega (arith, h .credited)))
 
 -- the number of any refusal
-low : (a : Answer) → (isAccepted a ≡ false → (3 ≤ numberOf a) × (numberOf a ≤ 22)) → numberOf a < 100
+low : (a : Answer) → (isAccepted a ≡ false → (3 ≤ numberOf a) × (numberOf a ≤ 23)) → numberOf a < 100
 low Accepted h = omega arith
 low (Booked k) h = omega arith
 low (Chained k) h = omega arith
@@ -87,34 +87,34 @@ plain-told c st e = go (firstOf (deskConditions c st))
 
 -- ---- a settlement or derivation
 
-module _ (st : Store) (ready : Ready st) (h g : Half) (lent : List Step) where
+module _ (st : Store) (ready : Ready st) (hs : Halves) (lent : List Step) where
   abbrev rows : Rows
   rows = rowsOf (st .directory)
 
   abbrev xs : List Step
-  xs = stepsOf (halvesChain (ask rows) h g)
+  xs = stepsOf (halvesChain (ask rows) hs)
 
   -- K, and what is written to the lent list, which starts with the chain
-  pair-brief : (a : Answer) → countOf a ≡ length xs → Quiet (deriveConditions (ask rows) h g) → Brief a (written xs lent)
+  pair-brief : (a : Answer) → countOf a ≡ length xs → Quiet (deriveConditions (ask rows) hs) → Brief a (written xs lent)
   pair-brief a k q =
-      let parts : Quiet (halvesConditions (ask rows) h g) × Quiet (chainConditions (halvesChain (ask rows) h g)) = quiet-both (halvesConditions (ask rows) h g) (chainConditions (halvesChain (ask rows) h g)) q in
-      let is : halvesChain (ask rows) h g ≡ chained xs = quiet-chained (halvesChain (ask rows) h g) (parts .1) in
-      let agree : Agreed rows h g = quiet-agree rows h g (parts .0) in
+      let parts : Quiet (halvesConditions (ask rows) hs) × Quiet (chainConditions (halvesChain (ask rows) hs)) = quiet-both (halvesConditions (ask rows) hs) (chainConditions (halvesChain (ask rows) hs)) q in
+      let is : halvesChain (ask rows) hs ≡ chained xs = quiet-chained (halvesChain (ask rows) hs) (parts .1) in
+      let agree : Agreed rows (delivering hs) (receiving hs) = quiet-agree rows (delivering hs) (receiving hs) (sideUnknown hs) (sameSide hs) (parts .0) in
       let facts : Facts rows = sound-gives (st .directory) (ready .soundBooks) in
-      let small = steps-small rows facts (h .security) (h .account) (g .account) xs (agree .deliverer) (agree .receiver) (agree .two) is in
+      let small = steps-small rows facts (delivering hs .security) (delivering hs .account) (receiving hs .account) xs (agree .deliverer) (agree .receiver) (agree .two) is in
       record {
-        few = rw k (chain-few rows (h .security) (h .account) (g .account) xs is);
+        few = rw k (chain-few rows (delivering hs .security) (delivering hs .account) (receiving hs .account) xs is);
         small = λ x i. small x (rw (k, take-append-seam xs (drop (length xs) lent)) at i);
       }
 
-  derive-brief : Brief (desk (derive h g lent) st .answer) (desk (derive h g lent) st .steps)
-  derive-brief = refused-or (derive h g lent) st (λ e. pair-brief (Chained (length xs)) refl (desk-quiet (derive h g lent) st e .1 .1))
+  derive-brief : Brief (desk (derive hs lent) st .answer) (desk (derive hs lent) st .steps)
+  derive-brief = refused-or (derive hs lent) st (λ e. pair-brief (Chained (length xs)) refl (desk-quiet (derive hs lent) st e .1 .1))
 
-  settle-brief : Brief (desk (settle h g lent) st .answer) (desk (settle h g lent) st .steps)
+  settle-brief : Brief (desk (settle hs lent) st .answer) (desk (settle hs lent) st .steps)
   settle-brief =
-      refused-or (settle h g lent) st
+      refused-or (settle hs lent) st
       (λ e. pair-brief (Booked (length xs)) refl
-      (quiet-both (deriveConditions (ask rows) h g) (bookConditions (ask rows) (st .positions) (st .cash) h g xs) (desk-quiet (settle h g lent) st e .1 .1) .0))
+      (quiet-both (deriveConditions (ask rows) hs) (bookConditions (ask rows) (st .positions) (st .cash) (delivering hs) (receiving hs) xs) (desk-quiet (settle hs lent) st e .1 .1) .0))
 
 -- ---- a command
 
@@ -125,8 +125,8 @@ brief st ready n tag w o h k =
     (λ x. plain (enter x) refl)
     (λ way a s q. plain (move way a s q) refl)
     (λ way a m. plain (pay way a m) refl)
-    (λ l p q. paired (settle p q programSteps) l (settle-brief st ready p q programSteps))
-    (λ l p q. paired (derive p q programSteps) l (derive-brief st ready p q programSteps))
+    (λ l hs. paired (settle hs programSteps) l (settle-brief st ready hs programSteps))
+    (λ l hs. paired (derive hs programSteps) l (derive-brief st ready hs programSteps))
   where
     lower : (c : Call) → numberOf (desk c st .answer) < 100
     lower c = low (desk c st .answer) (λ e. places-range (numberOf (desk c st .answer)) (demand1 .desks c st .byNumber e))

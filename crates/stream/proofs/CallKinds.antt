@@ -9,16 +9,17 @@ use native.Mathlib.Decide.{ℕ-discrete}
 use native.Mathlib.Omega.{arith}
 use lib.Dec.{eqb, leb}
 use lib.ListN.{length, getElem?}
-use Rattle.rules.specs.declared.Half.{Half}
+use Rattle.rules.specs.declared.Halves.{Halves}
 use Rattle.rules.specs.Entries.{Row}
 use Rattle.rules.specs.Booking.{Way, positionCount, cashCount}
 use Rattle.rules.specs.Calls.{Store, Call, enter, move, pay, settle, derive, misfit}
-use Rattle.rules.specs.Stream.{widths, widthOf, callOf, halfAt, programSteps}
+use Rattle.rules.specs.Stream.{widths, widthOf, callOf, orderedAt, sidedAt, programSteps}
 use Rattle.rules.proofs.Basics.{and-both, eqb-is, eqb-true, eqb-not, eqb-false, leb-is}
 use Rattle.rules.proofs.Running.{Ready}
 use Rattle.booking.specs.Moves.{wayOf}
 use Rattle.wire.specs.Operands.{moveIn, paymentIn}
-use Rattle.wire.proofs.Decoded.{bring-in-call, take-out-call, pay-in-call, pay-out-call, known-tag}
+use Rattle.wire.proofs.Decoded.{bring-in-call, take-out-call, pay-in-call, pay-out-call, settle-call, derive-call, settle-sided-call, known-tag}
+use Rattle.stream.specs.Obeyed.{instruction}
 
 -- ---- kinds
 
@@ -32,20 +33,20 @@ next P n tag {x} {y} l here above = go (eqb tag n) refl
 
 -- what holds of each kind of call holds of every command's; two halves come from 0A on
 pub by-kind : (P : Call → Type 0) (tag : ℕ) (o : List ℕ) → 1 ≤ tag → ((x : Row) → P (enter x)) → ((w : Way) (a s q : ℕ) → P (move w a s q))
-    → ((w : Way) (a m : ℕ) → P (pay w a m)) → (10 ≤ tag → (h g : Half) → P (settle h g programSteps))
-    → (10 ≤ tag → (h g : Half) → P (derive h g programSteps)) → P (callOf tag o)
+    → ((w : Way) (a m : ℕ) → P (pay w a m)) → (10 ≤ tag → (hs : Halves) → P (settle hs programSteps))
+    → (10 ≤ tag → (hs : Halves) → P (derive hs programSteps)) → P (callOf tag o)
 unfolding callOf
 by-kind P tag o l entered moved paid settled derived =
     next P 1 tag l (entered _) (λ l. next P 2 tag l (entered _) (λ l. next P 3 tag l (entered _) (λ l.
     next P 4 tag l (entered _) (λ l. next P 5 tag l (entered _) (λ l. next P 6 tag l (moved _ _ _ _) (λ l.
     next P 7 tag l (moved _ _ _ _) (λ l. next P 8 tag l (paid _ _ _) (λ l. next P 9 tag l (paid _ _ _) (λ l.
-    next P 10 tag l (settled l _ _) (λ k. derived l _ _))))))))))
+    next P 10 tag l (settled l _) (λ k. next P 11 tag k (derived l _) (λ k. next P 12 tag k (settled l _) (λ k. derived l _))))))))))))
 
 -- a ready store's lists, and the program's step list, fit
 pub fits : (st : Store) → Ready st → (tag : ℕ) (o : List ℕ) → 1 ≤ tag → misfit (callOf tag o) st ≡ false
 unfolding misfit
 fits st ready tag o l =
-    by-kind (λ (c : Call). misfit c st ≡ false) tag o l (λ x. refl) (λ w a s q. rw held) (λ w a m. rw paid) (λ k h g. rw (held, paid)) (λ k h g. refl)
+    by-kind (λ (c : Call). misfit c st ≡ false) tag o l (λ x. refl) (λ w a s q. rw held) (λ w a m. rw paid) (λ k hs. rw (held, paid)) (λ k hs. refl)
   where
     held : eqb (length (st .positions)) positionCount ≡ true
     held = eqb-true (length (st .positions)) positionCount (ready .positions)
@@ -53,7 +54,7 @@ fits st ready tag o l =
     paid : eqb (length (st .cash)) cashCount ≡ true
     paid = eqb-true (length (st .cash)) cashCount (ready .cash)
 
--- ---- the calls of 06 to 0B
+-- ---- the calls of 06 to 0D
 
 module _ (tag : ℕ) (o : List ℕ) where
   -- 06 and 07
@@ -75,22 +76,36 @@ module _ (tag : ℕ) (o : List ℕ) where
   other : (n : ℕ) → n < tag → eqb tag n ≡ false
   other n h = eqb-false tag n (omega arith)
 
-  -- 0B; a byte above it has no call of its own
-  pub derive-call : 11 ≤ tag → callOf tag o ≡ derive (halfAt o 0) (halfAt o 20) programSteps
+  -- 0A and 0B
+  pub ordered-call : 10 ≤ tag → tag < 12 → callOf tag o ≡ instruction (eqb tag 10) (orderedAt o)
+  ordered-call l h = go (eqb tag 10) refl
+    where
+      go : (b : Bool) → eqb tag 10 ≡ b → callOf tag o ≡ instruction b (orderedAt o)
+      go true e = settle-call tag o (eqb-is tag 10 e)
+      go false e = let n : tag ≢ 10 = eqb-not tag 10 e in derive-call tag o (omega arith)
+
+  -- 0C and 0D; a byte above them has no call of its own
+  pub sided-call : 12 ≤ tag → callOf tag o ≡ instruction (eqb tag 12) (sidedAt o)
   unfolding callOf
-  derive-call h =
-      rw (
-        other 1 (omega arith),
-        other 2 (omega arith),
-        other 3 (omega arith),
-        other 4 (omega arith),
-        other 5 (omega arith),
-        other 6 (omega arith),
-        other 7 (omega arith),
-        other 8 (omega arith),
-        other 9 (omega arith),
-        other 10 (omega arith),
-      )
+  sided-call h = go (eqb tag 12) refl
+    where
+      go : (b : Bool) → eqb tag 12 ≡ b → callOf tag o ≡ instruction b (sidedAt o)
+      go true e = settle-sided-call tag o (eqb-is tag 12 e)
+      go false e =
+          rw (
+            other 1 (omega arith),
+            other 2 (omega arith),
+            other 3 (omega arith),
+            other 4 (omega arith),
+            other 5 (omega arith),
+            other 6 (omega arith),
+            other 7 (omega arith),
+            other 8 (omega arith),
+            other 9 (omega arith),
+            other 10 (omega arith),
+            other 11 (omega arith),
+            e,
+          )
 
 -- ---- widths
 
@@ -110,12 +125,15 @@ unfolding eachWide
 wide zero w e = let z : _≡_ {A = ℕ} 0 1 = cc in absurd (omega arith)
 wide (suc n) w e = wide-at widths n w refl e
 
--- two halves have 40
-pub pair-wide : (tag w : ℕ) → widthOf tag ≡ some w → 10 ≤ tag → w ≡ 40
-pair-wide tag w e l = go (ℕ-discrete tag 10)
+-- two halves have 40 or more
+pub pair-wide : (tag w : ℕ) → widthOf tag ≡ some w → 10 ≤ tag → 40 ≤ w
+pair-wide tag w e l = go (ℕ-discrete tag 10) (ℕ-discrete tag 11) (ℕ-discrete tag 12)
   where
-    go : Dec (tag ≡ 10) → w ≡ 40
-    go (yes k) = let f : some 40 ≡ some w = ap widthOf (sym k) ∙ e in cc
-    go (no k) =
-        let j : tag ≡ 11 = omega (arith, known-tag tag w e .1) in
-        let f : some 40 ≡ some w = ap widthOf (sym j) ∙ e in cc
+    at : (n x : ℕ) → tag ≡ n → widthOf n ≡ some x → 40 ≤ x → 40 ≤ w
+    at n x k f m = let same : some x ≡ some w = sym f ∙ ap widthOf (sym k) ∙ e in let is : x ≡ w = cc in omega arith
+
+    go : Dec (tag ≡ 10) → Dec (tag ≡ 11) → Dec (tag ≡ 12) → 40 ≤ w
+    go (yes k) b c = at 10 40 k refl (omega arith)
+    go (no a) (yes k) c = at 11 40 k refl (omega arith)
+    go (no a) (no b) (yes k) = at 12 42 k refl (omega arith)
+    go (no a) (no b) (no c) = at 13 42 (omega (arith, known-tag tag w e .1)) refl (omega arith)

@@ -9,6 +9,7 @@ use native.Mathlib.Omega.{arith}
 use lib.IntN.{ℤ, pos, _+ℤ_, _-ℤ_, +ℤ-idr}
 use lib.ListN.{getD}
 use Rattle.rules.specs.declared.Half.{Half}
+use Rattle.rules.specs.declared.Halves.{Halves}
 use Rattle.rules.specs.declared.Step.{Step}
 use Rattle.rules.specs.Tests.{_when_}
 use Rattle.rules.specs.Directory.{Rows, rowsOf, securityLimit}
@@ -134,14 +135,16 @@ module _ (st : Store) (b : Bounded st) where
       go c here there free (yes f) = rw f (same-within here free)
       go c here there free (no ne) = same-within (there c ne) (b .cents c)
 
-  settle-kept : (h g : Half) (lent : List Step) → isAccepted (desk (settle h g lent) st .answer) ≡ true → Bounded (desk (settle h g lent) st .store)
-  settle-kept h g lent e =
-      let answer = ap (λ o. o .answer) (desk-clear (settle h g lent) st (accepted-free (settle h g lent) st e)) in
-      let k = demand2 .books st h g lent .onlyThen _ answer in
-      let free = k .1 .allowed in
-      let pair = k .3 in
+  settle-kept : (hs : Halves) (lent : List Step) → isAccepted (desk (settle hs lent) st .answer) ≡ true → Bounded (desk (settle hs lent) st .store)
+  settle-kept hs lent e =
+      let answer = ap (λ o. o .answer) (desk-clear (settle hs lent) st (accepted-free (settle hs lent) st e)) in
+      let k = demand2 .books st hs lent .onlyThen _ answer in
+      let h : Half = k .0 in
+      let g : Half = k .1 in
+      let free = k .3 .allowed in
+      let pair = k .5 in
       record {
-        units = units-kept (k .0) (h .security) (h .quantity) (st .positions) _ (pair .positions) (λ x i. not-beyond _ (free .debitLimits x i)) (λ x i. not-beyond _ (free .creditLimits x i)) (b .units);
+        units = units-kept (k .2) (h .security) (h .quantity) (st .positions) _ (pair .positions) (λ x i. not-beyond _ (free .debitLimits x i)) (λ x i. not-beyond _ (free .creditLimits x i)) (b .units);
         cents = cents-kept (g .account) (h .account) (h .amount) (st .cash) _ (pair .cash) (λ n. not-beyond _ (free .payerLimit n)) (λ n. not-beyond _ (free .payeeLimit n)) (b .cents);
       }
 
@@ -149,8 +152,8 @@ module _ (st : Store) (b : Bounded st) where
   accepted-kept (enter x) e = let k = demand2 .changes (enter x) st e in record { units = rw (k .2) (b .units); cents = rw (k .3) (b .cents) }
   accepted-kept (move w a s q) e = move-kept w a s q e
   accepted-kept (pay w a m) e = pay-kept w a m e
-  accepted-kept (settle h g lent) e = settle-kept h g lent e
-  accepted-kept (derive h g lent) e = rw (demand2 .changes (derive h g lent) st e) b
+  accepted-kept (settle hs lent) e = settle-kept hs lent e
+  accepted-kept (derive hs lent) e = rw (demand2 .changes (derive hs lent) st e) b
 
   pub bounded-kept : (c : Call) → Bounded (desk c st .store)
   bounded-kept c = go (isAccepted (desk c st .answer)) refl

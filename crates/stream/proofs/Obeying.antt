@@ -8,7 +8,7 @@ use lib.ListN.{length, take, drop}
 use lib.Seq.{take-append-seam}
 use Rattle.rules.specs.declared.Answer.{Answer}
 use Rattle.rules.specs.declared.Entered.{Entered}
-use Rattle.rules.specs.declared.Half.{Half}
+use Rattle.rules.specs.declared.Halves.{Halves}
 use Rattle.rules.specs.declared.Step.{Step}
 use Rattle.rules.specs.Tests.{firstOf}
 use Rattle.rules.specs.Directory.{rowsOf}
@@ -110,24 +110,24 @@ shown m n xs lent e =
     let k : n ≡ length xs = steps-counted m n ∙ ap length e in
     e ∙ sym (rw k (take-append-seam xs (drop (length xs) lent)))
 
-module _ (h g : Half) (n l m : List ℕ) (r : Answer) (same : length m ≡ length l) (b : List ℕ) (p c : List ℤ) where
-  pub derive-obeys : Derives l m (asked n) h g r → Does (derive h g programSteps) (held n b p c l) r (held n b p c m)
+module _ (hs : Halves) (n l m : List ℕ) (r : Answer) (same : length m ≡ length l) (b : List ℕ) (p c : List ℤ) where
+  pub derive-obeys : Derives l m (asked n) hs r → Does (derive hs programSteps) (held n b p c l) r (held n b p c m)
   derive-obeys d st i =
-      let x : DerivedIn l m (derived (ask (rowsOf (st .directory))) h g) r =
-      rw (derived-fits l (asked n) h g (i .long), answers n (st .directory) (i .kept .indexed)) at d in
-      rw (core-derives st h g programSteps)
+      let x : DerivedIn l m (derived (ask (rowsOf (st .directory))) hs) r =
+      rw (derived-fits l (asked n) hs (i .long), answers n (st .directory) (i .kept .indexed)) at d in
+      rw (core-derives st hs programSteps)
       (record {
         answer = x .answer;
         steps = rw (x .answer) at (shown m _ _ programSteps (x .steps));
         left = record { kept = i .kept; positions = i .positions; cash = i .cash; long = same ∙ i .long };
       })
 
-  pub settle-obeys : (p′ c′ : List ℤ) → Settles l m (asked n) p c h g r p′ c′ → Does (settle h g programSteps) (held n b p c l) r (held n b p′ c′ m)
+  pub settle-obeys : (p′ c′ : List ℤ) → Settles l m (asked n) p c hs r p′ c′ → Does (settle hs programSteps) (held n b p c l) r (held n b p′ c′ m)
   settle-obeys p′ c′ s st i =
       let k = ask (rowsOf (st .directory)) in
-      let x : SettledIn l m (derivedInto l k h g .steps) (settleOutcome k (st .positions) (st .cash) h g) r p′ c′ =
-      rw (settle-fits l (asked n) p c h g (i .long), answers n (st .directory) (i .kept .indexed), i .positions, i .cash) at s in
-      rw (core-settles st h g programSteps)
+      let x : SettledIn l m (derivedInto l k hs .steps) (settleOutcome k (st .positions) (st .cash) hs) r p′ c′ =
+      rw (settle-fits l (asked n) p c hs (i .long), answers n (st .directory) (i .kept .indexed), i .positions, i .cash) at s in
+      rw (core-settles st hs programSteps)
       (record {
         answer = x .answer;
         steps = rw (x .answer) at (shown m _ _ programSteps (x .steps));

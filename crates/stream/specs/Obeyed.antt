@@ -1,13 +1,15 @@
 -- A command obeyed, as the rules have its call. Assumes nothing.
 use mathlib.Core.Path.{_≡_}
 use Prim.Native.Nat.{ℕ}
+use mathlib.Core.Bool.{Bool, true, false}
 use mathlib.Core.List.{List}
 use mathlib.Core.Option.{some}
 use lib.IntN.{ℤ}
 use lib.ListN.{length, take}
 use Rattle.rules.specs.declared.Answer.{Answer}
-use Rattle.rules.specs.Calls.{Store, Call, Outcome, core, countOf}
-use Rattle.rules.specs.Stream.{widthOf}
+use Rattle.rules.specs.declared.Halves.{Halves}
+use Rattle.rules.specs.Calls.{Store, Call, settle, derive, Outcome, core, countOf}
+use Rattle.rules.specs.Stream.{widthOf, programSteps}
 use Rattle.entries.specs.Entered.{Kept, Keeps}
 use Rattle.chain.specs.StepList.{stepNumbers, stepsIn}
 
@@ -56,6 +58,11 @@ Moves c l before a after = (b : List ℕ) (m : List ℤ) (x : List ℕ) → Does
 -- one that is lent cash
 abbrev pub Pays : Call → List ℕ → List ℤ → Answer → List ℤ → Type 0
 Pays c l before a after = (b : List ℕ) (p : List ℤ) (x : List ℕ) → Does c (held l b p before x) a (held l b p after x)
+
+-- two halves settled, or their chain derived, by the program
+abbrev pub instruction : Bool → Halves → Call
+instruction true hs = settle hs programSteps
+instruction false hs = derive hs programSteps
 
 -- the operands are as many as the command has
 abbrev pub Whole : ℕ → List ℕ → Type 0

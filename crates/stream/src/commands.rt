@@ -12,19 +12,20 @@ use entries::entries::enter_security;
 use entries::names::NAMES;
 use index::places::INDEX;
 use rules::Answer;
+use rules::Halves;
 use wire::operands::decode_account;
 use wire::operands::decode_csd;
-use wire::operands::decode_delivering;
 use wire::operands::decode_link;
 use wire::operands::decode_move;
+use wire::operands::decode_ordered;
 use wire::operands::decode_pair;
 use wire::operands::decode_payment;
-use wire::operands::decode_receiving;
 use wire::operands::decode_security;
+use wire::operands::decode_sided;
 ghost use mathlib.Core.List.{List};
 ghost use Prim.Native.Nat.{ℕ, _<_, _≤_};
 ghost use Rattle.rules.specs.Stream.{callOf};
-ghost use Rattle.stream.specs.Obeyed.{keptIn, held, Does, Enters, Moves, Pays, Whole};
+ghost use Rattle.stream.specs.Obeyed.{keptIn, held, Does, Enters, Moves, Pays, Whole, instruction};
 
 // 01 to 05, where the operands are whole.
 fn enter(index: &mut [u16; INDEX], names: &mut [u8; NAMES], tag: u8, operands: &[u8]) -> Answer
@@ -72,7 +73,26 @@ fn move_money(index: &[u16; INDEX], cash: &mut [i64], tag: u8, operands: &[u8]) 
     move_cash(index, cash, tag == 8, asked.account, asked.amount)
 }
 
-// 0A and 0B.
+// Two halves settled, or their chain derived.
+fn instruct_halves(
+    index: &[u16; INDEX],
+    positions: &mut [i64],
+    cash: &mut [i64],
+    steps: &mut [u16],
+    settles: bool,
+    halves: Halves,
+) -> Answer
+    ensures { λ r. ⌜ ((b : List ℕ) → Does (instruction settles halves)
+        (held (now (index .entry)) b (now (positions .entry)) (now (cash .entry)) (now (steps .entry))) r
+        (held (now (index .entry)) b (now (positions .exit)) (now (cash .exit)) (now (steps .exit)))) ⌝ }
+{
+    if settles {
+        return settle(index, positions, cash, steps, halves);
+    }
+    derive(index, steps, halves)
+}
+
+// 0A and 0B, 0C and 0D.
 fn instruct(
     index: &[u16; INDEX],
     positions: &mut [i64],
@@ -86,12 +106,12 @@ fn instruct(
         (held (now (index .entry)) b (now (positions .entry)) (now (cash .entry)) (now (steps .entry))) r
         (held (now (index .entry)) b (now (positions .exit)) (now (cash .exit)) (now (steps .exit)))) ⌝ }
 {
-    let delivering = decode_delivering(operands);
-    let receiving = decode_receiving(operands);
-    if tag == 10 {
-        return settle(index, positions, cash, steps, delivering, receiving);
+    if tag < 12 {
+        let ordered = decode_ordered(operands);
+        return instruct_halves(index, positions, cash, steps, tag == 10, ordered);
     }
-    derive(index, steps, delivering, receiving)
+    let sided = decode_sided(operands);
+    instruct_halves(index, positions, cash, steps, tag == 12, sided)
 }
 
 // The command `tag`, where its operands are whole.

@@ -3,8 +3,8 @@ use borrow.Author.Needs.{needs}
 use mathlib.Core.Path.{_∙_}
 use Rattle.desk.proofs.Admitted.{nothing-kept}
 use Rattle.desk.proofs.Decided.{derivation-refused, derivation-few, derivation-passed}
-use Rattle.desk.proofs.chaining.derived.Statement.{statement}
-use Rattle.desk.proofs.chaining.derived.Tie as tie
+use Rattle.desk.proofs.chaining.derive_halves.Statement.{statement}
+use Rattle.desk.proofs.chaining.derive_halves.Tie as tie
 
 early-refusal-requires : tie.Need-early-refusal-requires
 early-refusal-requires c κs = nothing-kept
@@ -42,8 +42,8 @@ returns-2 c =
     c .replied .ensures
     ∙ derivation-passed (a .directory) (a .lent) (a .halves) _ _ (e .before .early-refusal .ensures) (e .if1 .left) _ _ (m .derive .ensures)
 
-pub derived-spec : {M : Type 1} → statement M
-derived-spec =
+pub derive-halves-spec : {M : Type 1} → statement M
+derive-halves-spec =
     tie.close
     (tie.spec
     early-refusal-requires

@@ -4,8 +4,8 @@ use mathlib.Core.Path.{_∙_}
 use denote.Ref.{now}
 use Rattle.desk.proofs.Admitted.{nothing-kept}
 use Rattle.desk.proofs.Decided.{settlement-refused, settlement-few, settlement-passed}
-use Rattle.desk.proofs.chaining.settled.Statement.{statement}
-use Rattle.desk.proofs.chaining.settled.Tie as tie
+use Rattle.desk.proofs.chaining.settle_halves.Statement.{statement}
+use Rattle.desk.proofs.chaining.settle_halves.Tie as tie
 
 early-refusal-requires : tie.Need-early-refusal-requires
 early-refusal-requires c κs = nothing-kept
@@ -50,8 +50,8 @@ returns-2 c =
     let s = settlement-passed (a .directory) (now (a .positions)) (now (a .cash)) (a .lent) (a .halves) _ _ (e .before .early-refusal .ensures) (e .if1 .left) _ _ _ _ (m .settle .ensures) in
     (c .replied .ensures ∙ s .0, s .1, s .2)
 
-pub settled-spec : {M : Type 1} → statement M
-settled-spec =
+pub settle-halves-spec : {M : Type 1} → statement M
+settle-halves-spec =
     tie.close
     (tie.spec
     early-refusal-requires
