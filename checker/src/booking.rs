@@ -57,6 +57,51 @@ pub struct Half {
     pub amount: Cents,
 }
 
+/// Values of a side.
+pub const DELIVERING: u8 = 0;
+pub const RECEIVING: u8 = 1;
+
+/// A half with its side before it.
+#[derive(Clone, Copy, PartialEq, Eq, Debug, Default)]
+pub struct SidedHalf {
+    pub side: u8,
+    pub half: Half,
+}
+
+/// Two halves in order. With wrong sides the order means nothing, and they are refused before it is used.
+#[derive(Clone, Copy, Debug)]
+pub struct Halves<'a> {
+    delivering: &'a Half,
+    receiving: &'a Half,
+    sides: Sides,
+}
+
+/// What two halves say of their sides.
+#[derive(Clone, Copy, PartialEq, Eq, Debug)]
+enum Sides {
+    OneEach,
+    Same,
+    OutsideList,
+}
+
+impl<'a> Halves<'a> {
+    /// "Two halves, delivering first."
+    pub fn by_place(delivering: &'a Half, receiving: &'a Half) -> Halves<'a> {
+        Halves { delivering, receiving, sides: Sides::OneEach }
+    }
+
+    /// Two halves with "one byte before each half: 0 delivering, 1 receiving".
+    pub fn by_side(first: &'a SidedHalf, second: &'a SidedHalf) -> Halves<'a> {
+        let wrong = |sides| Halves { delivering: &first.half, receiving: &second.half, sides };
+        match (first.side, second.side) {
+            (DELIVERING, RECEIVING) => Halves::by_place(&first.half, &second.half),
+            (RECEIVING, DELIVERING) => Halves::by_place(&second.half, &first.half),
+            (DELIVERING, DELIVERING) | (RECEIVING, RECEIVING) => wrong(Sides::Same),
+            _ => wrong(Sides::OutsideList),
+        }
+    }
+}
+
 /// Two halves that go together.
 struct Instruction {
     delivering: AccountNumber,
@@ -74,21 +119,15 @@ pub enum Direction {
 }
 
 impl Register {
-    /// The chain of two halves, or refusal 6 to 18.
-    pub fn derive_halves(&self, delivering: &Half, receiving: &Half) -> Result<Steps, Refusal> {
-        let instruction = self.instruction(delivering, receiving)?;
+    /// The chain of two halves, or the refusal of these or of the chain.
+    pub fn derive_halves(&self, halves: Halves) -> Result<Steps, Refusal> {
+        let instruction = self.instruction(halves)?;
         self.derive(instruction.security, instruction.delivering, instruction.receiving)
     }
 
-    /// Books the chain of two halves and their cash, or gives refusal 6 to 22 and changes nothing.
-    pub fn settle(
-        &self,
-        positions: &mut Positions,
-        cash: &mut Cash,
-        delivering: &Half,
-        receiving: &Half,
-    ) -> Result<Steps, Refusal> {
-        let instruction = self.instruction(delivering, receiving)?;
+    /// Books the chain of two halves and their cash, or gives the refusal and changes nothing.
+    pub fn settle(&self, positions: &mut Positions, cash: &mut Cash, halves: Halves) -> Result<Steps, Refusal> {
+        let instruction = self.instruction(halves)?;
         let steps = self.derive(instruction.security, instruction.delivering, instruction.receiving)?;
         self.book(positions, cash, &instruction, &steps)?;
         Ok(steps)
@@ -146,19 +185,22 @@ impl Register {
         })
     }
 
-    /// Judges each half by itself (6, 7, 10), then both together (12, 13).
-    fn instruction(&self, delivering: &Half, receiving: &Half) -> Result<Instruction, Refusal> {
-        let halves = [delivering, receiving];
-        for half in halves {
+    /// Judges each half by itself (6, 7, 10), then the two sides (23), then both halves together (12, 13).
+    #[inline(always)]
+    fn instruction(&self, halves: Halves) -> Result<Instruction, Refusal> {
+        let Halves { delivering, receiving, sides } = halves;
+        for half in [delivering, receiving] {
             self.account(half.account)?;
             self.csd(half.counterpart)?;
             self.security(half.security)?;
         }
-        let in_range = |half: &&Half| (1..=BOUND).contains(&half.quantity.0) && (0..=BOUND).contains(&half.amount.0);
-        require(halves.iter().all(in_range), Refusal::OutsideRange)?;
+        let in_range = |half: &Half| (1..=BOUND).contains(&half.quantity.0) && (0..=BOUND).contains(&half.amount.0);
+        let all_in_range = in_range(delivering) && in_range(receiving) && sides != Sides::OutsideList;
+        require(all_in_range, Refusal::OutsideRange)?;
         let (d, r) = (self.account(delivering.account)?, self.account(receiving.account)?);
-        let participants = [d, r].iter().all(|&account| self.account_kind(account) == PARTICIPANT);
-        require(participants, Refusal::WrongAccount)?;
+        let is_participant = |account| self.account_kind(account) == PARTICIPANT;
+        require(is_participant(d) && is_participant(r), Refusal::WrongAccount)?;
+        require(sides != Sides::Same, Refusal::SameSide)?;
         let agree = delivering.security == receiving.security
             && delivering.quantity == receiving.quantity
             && delivering.amount == receiving.amount

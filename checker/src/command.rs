@@ -1,6 +1,6 @@
 //! Commands as bytes: one byte for the command, then operands big-endian of fixed widths.
 
-use crate::booking::{Cents, Half, Units};
+use crate::booking::{Cents, Half, SidedHalf, Units};
 use crate::directory::{Account, Csd, Link, Pair, Security};
 use crate::refusal::Refusal;
 
@@ -17,6 +17,8 @@ pub enum Command {
     PayOut { account: u16, amount: Cents },
     Settle { delivering: Half, receiving: Half },
     Derive { delivering: Half, receiving: Half },
+    SettleSided { first: SidedHalf, second: SidedHalf },
+    DeriveSided { first: SidedHalf, second: SidedHalf },
 }
 
 /// A place in the lent bytes, from which commands and their operands are read.
@@ -60,14 +62,20 @@ impl<'a> Reader<'a> {
             0x09 => Command::PayOut { account: self.account()?, amount: self.cents()? },
             0x0A => Command::Settle { delivering: self.half()?, receiving: self.half()? },
             0x0B => Command::Derive { delivering: self.half()?, receiving: self.half()? },
+            0x0C => Command::SettleSided { first: self.sided_half()?, second: self.sided_half()? },
+            0x0D => Command::DeriveSided { first: self.sided_half()?, second: self.sided_half()? },
             _ => return Err(Refusal::UnknownCommand),
         })
     }
 
-    fn bytes<const WIDTH: usize>(&mut self) -> Result<[u8; WIDTH], Refusal> {
-        let (bytes, rest) = self.rest.split_first_chunk().ok_or(Refusal::CutShort)?;
+    fn piece<const WIDTH: usize>(&mut self) -> Result<&'a [u8; WIDTH], Refusal> {
+        let (piece, rest) = self.rest.split_first_chunk().ok_or(Refusal::CutShort)?;
         self.rest = rest;
-        Ok(*bytes)
+        Ok(piece)
+    }
+
+    fn bytes<const WIDTH: usize>(&mut self) -> Result<[u8; WIDTH], Refusal> {
+        self.piece().copied()
     }
 
     fn byte(&mut self) -> Result<u8, Refusal> {
@@ -86,14 +94,21 @@ impl<'a> Reader<'a> {
         self.bytes().map(i64::from_be_bytes).map(Cents)
     }
 
+    /// A half is taken whole, so that its fields need no test each, and inlined, so that they are written once.
+    #[inline(always)]
     fn half(&mut self) -> Result<Half, Refusal> {
+        let mut fields = Reader::new(self.piece::<20>()?);
         Ok(Half {
-            account: self.account()?,
-            counterpart: self.byte()?,
-            security: self.byte()?,
-            quantity: self.units()?,
-            amount: self.cents()?,
+            account: fields.account()?,
+            counterpart: fields.byte()?,
+            security: fields.byte()?,
+            quantity: fields.units()?,
+            amount: fields.cents()?,
         })
+    }
+
+    fn sided_half(&mut self) -> Result<SidedHalf, Refusal> {
+        Ok(SidedHalf { side: self.byte()?, half: self.half()? })
     }
 }
 
@@ -112,6 +127,8 @@ impl Command {
             Command::PayOut { .. } => 0x09,
             Command::Settle { .. } => 0x0A,
             Command::Derive { .. } => 0x0B,
+            Command::SettleSided { .. } => 0x0C,
+            Command::DeriveSided { .. } => 0x0D,
         }
     }
 
@@ -147,6 +164,10 @@ impl Command {
                 delivering.write(out);
                 receiving.write(out);
             }
+            Command::SettleSided { first, second } | Command::DeriveSided { first, second } => {
+                first.write(out);
+                second.write(out);
+            }
         }
     }
 }
@@ -157,5 +178,12 @@ impl Half {
         out.extend([self.counterpart, self.security]);
         out.extend(self.quantity.0.to_be_bytes());
         out.extend(self.amount.0.to_be_bytes());
+    }
+}
+
+impl SidedHalf {
+    fn write(&self, out: &mut Vec<u8>) {
+        out.push(self.side);
+        self.half.write(out);
     }
 }

@@ -1,7 +1,7 @@
 //! The desk's functions as single calls, over a directory record and lent lists of any length and
 //! content. Lists are tested first (3), then soundness (4). A refusal changes nothing lent or handed in.
 
-use crate::booking::{self, Cash, Cents, Direction, Half, Positions, Units};
+use crate::booking::{self, Cash, Cents, Direction, Halves, Positions, Units};
 use crate::chain::{Step, Steps, STEPS};
 use crate::directory::*;
 use crate::refusal::{require, Refusal};
@@ -61,14 +61,9 @@ pub fn move_cash(
 }
 
 /// Writes the steps of the chain into the lent list, and answers how many they are.
-pub fn derive(
-    directory: &Directory,
-    steps: &mut [Step],
-    delivering: &Half,
-    receiving: &Half,
-) -> Result<usize, Refusal> {
+pub fn derive(directory: &Directory, steps: &mut [Step], halves: Halves) -> Result<usize, Refusal> {
     require(steps.len() >= STEPS, Refusal::LentList)?;
-    let chain = Register::of(directory)?.derive_halves(delivering, receiving)?;
+    let chain = Register::of(directory)?.derive_halves(halves)?;
     Ok(hand_over(&chain, steps))
 }
 
@@ -78,13 +73,12 @@ pub fn settle(
     positions: &mut [Units],
     cash: &mut [Cents],
     steps: &mut [Step],
-    delivering: &Half,
-    receiving: &Half,
+    halves: Halves,
 ) -> Result<usize, Refusal> {
     let positions = lent(positions)?;
     let cash = lent(cash)?;
     require(steps.len() >= STEPS, Refusal::LentList)?;
-    let chain = Register::of(directory)?.settle(positions, cash, delivering, receiving)?;
+    let chain = Register::of(directory)?.settle(positions, cash, halves)?;
     Ok(hand_over(&chain, steps))
 }
 

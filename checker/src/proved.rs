@@ -77,6 +77,30 @@ pub mod boundary {
             steps: *mut u8,
             steps_length: usize,
         ) -> u64;
+        fn fluzzam_settle_sided(
+            counts: *const usize,
+            counts_length: usize,
+            rows: *const u8,
+            rows_length: usize,
+            positions: *mut i64,
+            positions_length: usize,
+            cash: *mut i64,
+            cash_length: usize,
+            operands: *const u8,
+            operands_length: usize,
+            steps: *mut u8,
+            steps_length: usize,
+        ) -> u64;
+        fn fluzzam_derive_sided(
+            counts: *const usize,
+            counts_length: usize,
+            rows: *const u8,
+            rows_length: usize,
+            operands: *const u8,
+            operands_length: usize,
+            steps: *mut u8,
+            steps_length: usize,
+        ) -> u64;
         fn fluzzam_security_total(
             counts: *const usize,
             counts_length: usize,
@@ -159,6 +183,48 @@ pub mod boundary {
         let Bytes { counts, rows } = directory;
         unsafe {
             fluzzam_derive(
+                counts.as_ptr(),
+                counts.len(),
+                rows.as_ptr(),
+                rows.len(),
+                operands.as_ptr(),
+                operands.len(),
+                steps.as_mut_ptr(),
+                steps.len(),
+            )
+        }
+    }
+
+    pub fn settle_sided(
+        directory: &Bytes,
+        positions: &mut [Units],
+        cash: &mut [Cents],
+        operands: &[u8],
+        steps: &mut [u8],
+    ) -> u64 {
+        let Bytes { counts, rows } = directory;
+        unsafe {
+            fluzzam_settle_sided(
+                counts.as_ptr(),
+                counts.len(),
+                rows.as_ptr(),
+                rows.len(),
+                positions.as_mut_ptr().cast(),
+                positions.len(),
+                cash.as_mut_ptr().cast(),
+                cash.len(),
+                operands.as_ptr(),
+                operands.len(),
+                steps.as_mut_ptr(),
+                steps.len(),
+            )
+        }
+    }
+
+    pub fn derive_sided(directory: &Bytes, operands: &[u8], steps: &mut [u8]) -> u64 {
+        let Bytes { counts, rows } = directory;
+        unsafe {
+            fluzzam_derive_sided(
                 counts.as_ptr(),
                 counts.len(),
                 rows.as_ptr(),
@@ -343,6 +409,8 @@ impl Proved {
         match command {
             Command::Settle { .. } => boundary::settle(directory, positions, cash, operands, steps),
             Command::Derive { .. } => boundary::derive(directory, operands, steps),
+            Command::SettleSided { .. } => boundary::settle_sided(directory, positions, cash, operands, steps),
+            Command::DeriveSided { .. } => boundary::derive_sided(directory, operands, steps),
             Command::BringIn { .. } | Command::TakeOut { .. } | Command::PayIn { .. } | Command::PayOut { .. } => {
                 boundary::move_(directory, positions, cash, tag, operands)
             }

@@ -1,7 +1,7 @@
-//! Refusals, numbered as document 01 numbers them under "Refusals by place".
+//! Refusals, numbered as the documents number them.
 
-/// Why a call is refused. The order is the paper's: the lowest number that applies is given.
-#[derive(Clone, Copy, PartialEq, Eq, PartialOrd, Ord, Hash, Debug)]
+/// Why a call is refused, in the order of places: the first that applies is given.
+#[derive(Clone, Copy, PartialEq, Eq, Hash, Debug)]
 #[repr(u8)]
 pub enum Refusal {
     UnknownCommand = 1,
@@ -15,6 +15,7 @@ pub enum Refusal {
     AlreadyEntered = 9,
     WrongAccount = 10,
     RuleBroken = 11,
+    SameSide = 23,
     HalvesDiffer = 12,
     SameAccount = 13,
     NoLink = 14,

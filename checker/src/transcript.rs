@@ -1,6 +1,6 @@
 //! The program: a stream of commands over an empty store, and the text it prints.
 
-use crate::booking::{cash_total, Cash, Cents, Direction, Positions, Units};
+use crate::booking::{cash_total, Cash, Cents, Direction, Halves, Positions, Units};
 use crate::chain::Steps;
 use crate::command::{Command, Reader};
 use crate::directory::{ACCOUNTS, SECURITIES};
@@ -65,11 +65,17 @@ impl Session {
             }
             Command::PayIn { account, amount } => register.move_cash(cash, Direction::In, account, amount)?,
             Command::PayOut { account, amount } => register.move_cash(cash, Direction::Out, account, amount)?,
-            Command::Settle { delivering, receiving } => {
-                return register.settle(positions, cash, &delivering, &receiving).map(Done::Booked)
+            Command::Settle { ref delivering, ref receiving } => {
+                return register.settle(positions, cash, Halves::by_place(delivering, receiving)).map(Done::Booked)
             }
-            Command::Derive { delivering, receiving } => {
-                return register.derive_halves(&delivering, &receiving).map(Done::Chain)
+            Command::Derive { ref delivering, ref receiving } => {
+                return register.derive_halves(Halves::by_place(delivering, receiving)).map(Done::Chain)
+            }
+            Command::SettleSided { ref first, ref second } => {
+                return register.settle(positions, cash, Halves::by_side(first, second)).map(Done::Booked)
+            }
+            Command::DeriveSided { ref first, ref second } => {
+                return register.derive_halves(Halves::by_side(first, second)).map(Done::Chain)
             }
         }
         Ok(Done::Accepted)
@@ -99,7 +105,12 @@ pub fn transcript(input: &[u8]) -> Vec<u8> {
     let mut number = 0;
     while reader.peek().is_some() {
         number += 1;
-        match reader.command().and_then(|command| session.execute(&command)) {
+        // Borrowed, since a move would copy all of the command.
+        let answer = match &reader.command() {
+            Ok(command) => session.execute(command),
+            Err(refusal) => Err(*refusal),
+        };
+        match answer {
             Ok(Done::Accepted) => text.accepted(number),
             Ok(Done::Booked(steps)) => text.chain(number, b" booked ", &steps),
             Ok(Done::Chain(steps)) => text.chain(number, b" chain ", &steps),

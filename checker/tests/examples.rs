@@ -6,11 +6,12 @@
 
 use std::collections::BTreeMap;
 
-use checker::booking::{Cents, Units};
+use checker::booking::{Cents, Halves, Units};
 use checker::chain::Step;
-use checker::command::Command;
 use checker::desk;
 use checker::directory::*;
+use checker::trial::forms::FORMS;
+use checker::trial::implementation::{Answer, Call, Implementation, Model, Store};
 use checker::trial::scenario::{halves, Scenario};
 
 const SECURITY: u8 = 0;
@@ -74,42 +75,54 @@ impl Example {
         let (from, to) = (account(from).unwrap(), account(to).unwrap());
         let (delivering, receiving) = halves(self.scenario.directory(), from, to, SECURITY, 100, 0);
         let mut steps = [Step::default(); 16];
-        let derived = desk::derive(self.scenario.directory(), &mut steps, &delivering, &receiving);
-        self.agrees_with_settlement(
-            from,
-            to,
-            derived.map(|length| &steps[..length]).map_err(|refusal| refusal.number()),
-        );
-        self.agrees_with_stream(from, to, derived.map_err(|refusal| refusal.number()));
-        derived.map(|length| steps[..length].to_vec()).map_err(|refusal| refusal.number())
+        let halves = Halves::by_place(&delivering, &receiving);
+        let derived = desk::derive(self.scenario.directory(), &mut steps, halves);
+        let derived = derived.map(|length| &steps[..length]).map_err(|refusal| refusal.number());
+        self.agrees_with_settlement(from, to, derived);
+        self.agrees_with_stream(from, to, derived);
+        derived.map(<[Step]>::to_vec)
     }
 
-    /// Settling books the steps that derive gives, and nothing else, over holdings of 100 everywhere.
+    /// Settling in every form books the steps that derive gives, and nothing else, over holdings of 100 everywhere.
     fn agrees_with_settlement(&self, from: u16, to: u16, derived: Result<&[Step], u8>) {
-        let (delivering, receiving) = halves(self.scenario.directory(), from, to, SECURITY, 100, 0);
-        let (mut positions, mut cash) = (vec![Units(100); 4096], vec![Cents(5); 256]);
-        let mut steps = [Step::default(); 16];
         let directory = self.scenario.directory();
-        let booked = desk::settle(directory, &mut positions, &mut cash, &mut steps, &delivering, &receiving);
-        assert_eq!(booked.map(|length| &steps[..length]).map_err(|refusal| refusal.number()), derived);
-        let mut expected = vec![Units(100); 4096];
-        for step in derived.unwrap_or_default() {
-            expected[usize::from(step.debit) * 16].0 -= 100;
-            expected[usize::from(step.credit) * 16].0 += 100;
+        let (delivering, receiving) = halves(directory, from, to, SECURITY, 100, 0);
+        let before = Store {
+            directory: directory.clone(),
+            positions: vec![Units(100); 4096],
+            cash: vec![Cents(5); 256],
+            steps: vec![Step::default(); 16],
+        };
+        let mut due = before.clone();
+        for (place, step) in derived.unwrap_or_default().iter().enumerate() {
+            due.steps[place] = *step;
+            due.positions[usize::from(step.debit) * 16].0 -= 100;
+            due.positions[usize::from(step.credit) * 16].0 += 100;
         }
-        assert!(positions == expected && cash == vec![Cents(5); 256]);
+        for form in FORMS {
+            let mut store = before.clone();
+            let answer = Model.call(&mut store, &Call::Command(form.settle(delivering, receiving)));
+            assert_eq!(answer, derived.map_or_else(Answer::Refused, |steps| Answer::Booked(steps.len())), "{form:?}");
+            assert!(store == due, "{form:?}");
+        }
     }
 
-    fn agrees_with_stream(&self, from: u16, to: u16, derived: Result<usize, u8>) {
-        let mut bytes = self.scenario.bytes.clone();
+    /// In every form a stream prints the chain, or the refusal.
+    fn agrees_with_stream(&self, from: u16, to: u16, derived: Result<&[Step], u8>) {
         let (delivering, receiving) = halves(self.scenario.directory(), from, to, SECURITY, 100, 0);
-        Command::Derive { delivering, receiving }.write(&mut bytes);
-        let text = String::from_utf8(checker::transcript(&bytes)).unwrap();
-        let answer = match derived {
-            Ok(length) => format!(" chain {length}\n"),
-            Err(number) => format!(" no {number}\n"),
+        let due = match derived {
+            Ok(steps) => {
+                let line = |step: &Step| format!("- {} {} {}\n", step.csd, step.debit, step.credit);
+                format!(" chain {}\n{}total", steps.len(), steps.iter().map(line).collect::<String>())
+            }
+            Err(number) => format!(" no {number}\ntotal"),
         };
-        assert!(text.contains(&answer), "{text}");
+        for form in FORMS {
+            let mut bytes = self.scenario.bytes.clone();
+            form.derive(delivering, receiving).write(&mut bytes);
+            let text = String::from_utf8(checker::transcript(&bytes)).unwrap();
+            assert!(text.contains(&due), "{form:?}: {text}");
+        }
     }
 
     fn name(&self, csd: u8) -> char {
@@ -252,7 +265,8 @@ mod mistakes_to_expect {
         let mut positions = vec![Units(100); 4096];
         positions[usize::from(account("Omnibus C")) * 16].0 = 99;
         let (before, mut steps) = (positions.clone(), [Step::default(); 16]);
-        let answer = desk::settle(directory, &mut positions, &mut [Cents(0); 256], &mut steps, &delivering, &receiving);
+        let halves = Halves::by_place(&delivering, &receiving);
+        let answer = desk::settle(directory, &mut positions, &mut [Cents(0); 256], &mut steps, halves);
         assert_eq!(answer.map_err(|refusal| refusal.number()), Err(20));
         assert!(positions == before && steps == [Step::default(); 16]);
     }

@@ -8,6 +8,7 @@ use checker::chain::STEPS;
 use checker::command::{Command, Reader};
 use checker::proved::{boundary, code, read_steps, write_steps, Bytes, MISFIT, ROOM, STEP_BYTES};
 use checker::refusal::Refusal;
+use checker::trial::forms::Form;
 use checker::trial::implementation::{Answer, Call, Implementation, Model, Store};
 use checker::trial::random::Random;
 use checker::trial::{calls, commands, streams};
@@ -16,6 +17,8 @@ const ENTRIES: RangeInclusive<u8> = 0x01..=0x05;
 const MOVES: RangeInclusive<u8> = 0x06..=0x09;
 const SETTLE: RangeInclusive<u8> = 0x0A..=0x0A;
 const DERIVE: RangeInclusive<u8> = 0x0B..=0x0B;
+const SETTLE_SIDED: RangeInclusive<u8> = 0x0C..=0x0C;
+const DERIVE_SIDED: RangeInclusive<u8> = 0x0D..=0x0D;
 
 /// Up to more than the longest operands have.
 const LENGTHS: RangeInclusive<usize> = 0..=43;
@@ -37,14 +40,16 @@ impl Lent {
         Lent { directory, positions: store.positions.clone(), cash: store.cash.clone(), steps: steps.to_vec() }
     }
 
-    /// The export that takes these bytes. Settle and derive have their own, which are handed no byte.
+    /// The export that takes these bytes. Each settle and derive has its own, which is handed no byte.
     fn send(&mut self, tags: &RangeInclusive<u8>, tag: u8, operands: &[u8]) -> u64 {
         let Lent { directory, positions, cash, steps } = self;
         match *tags.start() {
             0x01 => boundary::enter(directory, tag, operands),
             0x06 => boundary::move_(directory, positions, cash, tag, operands),
             0x0A => boundary::settle(directory, positions, cash, operands, steps),
-            _ => boundary::derive(directory, operands, steps),
+            0x0B => boundary::derive(directory, operands, steps),
+            0x0C => boundary::settle_sided(directory, positions, cash, operands, steps),
+            _ => boundary::derive_sided(directory, operands, steps),
         }
     }
 }
@@ -128,14 +133,15 @@ fn every_byte_and_every_length() {
 #[test]
 fn commands_of_every_length() {
     let mut random = Random::new(2);
-    let mut accepted = [0; 12];
+    let mut accepted = [0; 14];
     for _ in 0..400 {
         let store = store(&mut random);
         for _ in 0..8 {
             let mut bytes = Vec::new();
             commands::command(&mut random, &store.directory).write(&mut bytes);
             let tag = bytes[0];
-            let tags = [ENTRIES, MOVES, SETTLE, DERIVE].into_iter().find(|tags| tags.contains(&tag)).unwrap();
+            let exports = [ENTRIES, MOVES, SETTLE, DERIVE, SETTLE_SIDED, DERIVE_SIDED];
+            let tags = exports.into_iter().find(|tags| tags.contains(&tag)).unwrap();
             let behind = junk(&mut random, 3);
             bytes.extend(behind);
             let steps = steps(&mut random);
@@ -160,10 +166,17 @@ fn no_directory() {
         lent.directory.counts.resize(counts, 1);
         lent.directory.rows.resize(rows, 1);
         let before = lent.clone();
-        for (tags, tag) in
-            [(ENTRIES, 0x01), (ENTRIES, 0xFF), (MOVES, 0x06), (MOVES, 0x00), (SETTLE, 0x0A), (DERIVE, 0x0B)]
-        {
-            for length in [0, 40] {
+        for (tags, tag) in [
+            (ENTRIES, 0x01),
+            (ENTRIES, 0xFF),
+            (MOVES, 0x06),
+            (MOVES, 0x00),
+            (SETTLE, 0x0A),
+            (DERIVE, 0x0B),
+            (SETTLE_SIDED, 0x0C),
+            (DERIVE_SIDED, 0x0D),
+        ] {
+            for length in [0, 40, 42] {
                 assert_eq!(lent.send(&tags, tag, &junk(&mut random, length)), MISFIT);
             }
         }
@@ -222,9 +235,12 @@ fn steps_below_sixteen() {
         steps: Vec::new(),
     };
     let mut random = Random::new(6);
-    for (tags, command) in
-        [(SETTLE, Command::Settle { delivering, receiving }), (DERIVE, Command::Derive { delivering, receiving })]
-    {
+    for (tags, command) in [
+        (SETTLE, Form::ByPlace.settle(delivering, receiving)),
+        (DERIVE, Form::ByPlace.derive(delivering, receiving)),
+        (SETTLE_SIDED, Form::ReceivingFirst.settle(delivering, receiving)),
+        (DERIVE_SIDED, Form::ReceivingFirst.derive(delivering, receiving)),
+    ] {
         let mut bytes = Vec::new();
         command.write(&mut bytes);
         for length in 0..=2 * STEP_BYTES {

@@ -1,10 +1,11 @@
-//! Points that document 01 leaves open to a second reading, and the one taken (docs/DECISIONS.md).
+//! Points that the documents leave open to a second reading, and the one taken (docs/DECISIONS.md).
 
-use checker::booking::{Cents, Half, Units, BOUND};
+use checker::booking::{Cents, Half, SidedHalf, Units, BOUND};
 use checker::chain::Step;
 use checker::command::Command;
 use checker::desk;
 use checker::directory::*;
+use checker::trial::forms::{Form, FORMS, NO_SIDES, SAME_SIDES};
 use checker::trial::implementation::{Answer, Call, Implementation, Model, Store};
 use checker::trial::scenario::{bic, halves, Scenario};
 
@@ -237,4 +238,165 @@ fn lists_come_before_soundness_and_soundness_before_full_tables() {
     assert_eq!(Model.call(&mut store, &Call::Command(Command::EnterCsd(row))), Answer::Accepted);
     assert_eq!(store.directory.csds.count, 6);
     assert!(store.directory.csds.rows[5] == row && store.directory.csds.rows[31].kind == 77);
+}
+
+/// Document 02, ask 1: "The side in the half".
+mod sides {
+    use super::*;
+
+    /// Every pair of sides of which one is not 0 or 1, or which are the same.
+    fn wrong_sides() -> Vec<[u8; 2]> {
+        [&SAME_SIDES[..], &NO_SIDES].concat()
+    }
+
+    /// The refusals of two halves with these sides, settled and derived in both orders: one number, 0 for none.
+    fn refusal(s: &mut Scenario, sides: [u8; 2], one: Half, other: Half) -> u8 {
+        let (first, second) = (SidedHalf { side: sides[0], half: one }, SidedHalf { side: sides[1], half: other });
+        let numbers = [
+            Command::DeriveSided { first, second },
+            Command::DeriveSided { first: second, second: first },
+            Command::SettleSided { first, second },
+            Command::SettleSided { first: second, second: first },
+        ]
+        .map(|command| number(s.send(command)));
+        assert_eq!(numbers, [numbers[0]; 4], "sides {sides:02X?}");
+        numbers[0]
+    }
+
+    /// Halves between A and B, with holdings and cash on both sides.
+    fn funded() -> (Scenario, Half, Half) {
+        let (mut s, d, r) = trade();
+        for account in [d.account, r.account] {
+            s.pay_in(account, 100).ok();
+        }
+        s.bring_in(d.account, 0, 100).ok();
+        (s, d, r)
+    }
+
+    #[test]
+    fn another_byte_is_7_also_twice() {
+        let (mut s, d, r) = funded();
+        for byte in 2..=0xFF {
+            for sides in [[byte, byte], [0, byte], [1, byte], [byte, 0], [byte, 1]] {
+                assert_eq!(refusal(&mut s, sides, d, r), 7, "sides {sides:02X?}");
+            }
+        }
+    }
+
+    #[test]
+    fn any_6_comes_before_a_wrong_side() {
+        let (mut s, d, r) = funded();
+        for sides in wrong_sides() {
+            assert_eq!(refusal(&mut s, sides, Half { account: 99, ..d }, r), 6);
+            assert_eq!(refusal(&mut s, sides, d, Half { account: FFFF, ..r }), 6);
+            assert_eq!(refusal(&mut s, sides, Half { counterpart: FF, ..d }, r), 6);
+            assert_eq!(refusal(&mut s, sides, d, Half { security: 2, ..r }), 6);
+        }
+    }
+
+    #[test]
+    fn a_wrong_byte_comes_before_10_12_and_13() {
+        let (mut s, d, r) = funded();
+        for sides in NO_SIDES {
+            assert_eq!(refusal(&mut s, sides, Half { account: account(B, MIRROR), ..d }, r), 7);
+            assert_eq!(refusal(&mut s, sides, d, Half { quantity: Units(6), ..r }), 7);
+            assert_eq!(refusal(&mut s, sides, Half { counterpart: B, ..d }, Half { counterpart: B, ..d }), 7);
+        }
+    }
+
+    #[test]
+    fn the_same_side_comes_after_7_and_10_and_before_12_and_13() {
+        let (mut s, d, r) = funded();
+        for sides in SAME_SIDES {
+            assert_eq!(refusal(&mut s, sides, Half { quantity: Units(0), ..d }, r), 7);
+            assert_eq!(refusal(&mut s, sides, d, Half { amount: Cents(BOUND + 1), ..r }), 7);
+            assert_eq!(refusal(&mut s, sides, d, Half { account: account(A, OMNIBUS), ..r }), 10);
+            assert_eq!(refusal(&mut s, sides, d, r), 23);
+            assert_eq!(refusal(&mut s, sides, Half { quantity: Units(6), ..d }, r), 23);
+            assert_eq!(refusal(&mut s, sides, Half { counterpart: X, ..d }, r), 23);
+            assert_eq!(refusal(&mut s, sides, Half { counterpart: B, ..d }, Half { counterpart: B, ..d }), 23);
+        }
+        assert_eq!(refusal(&mut s, [0, 1], Half { quantity: Units(6), ..d }, r), 12);
+        assert_eq!(refusal(&mut s, [0, 1], Half { counterpart: B, ..d }, Half { counterpart: B, ..d }), 13);
+    }
+
+    #[test]
+    fn wrong_sides_come_before_the_chain_and_after_the_lists() {
+        let (mut s, d, r) = trade();
+        let unlinked = halves(s.directory(), d.account, account(C, PARTICIPANT), 0, 5, 0);
+        assert_eq!(refusal(&mut s, [1, 1], unlinked.0, unlinked.1), 23);
+        assert_eq!(refusal(&mut s, [0, 1], unlinked.0, unlinked.1), 14);
+        let mut store = Store { directory: s.directory().clone(), ..Store::empty() };
+        let first = SidedHalf { side: 2, half: d };
+        let command = Command::DeriveSided { first, second: SidedHalf { side: 2, half: r } };
+        assert_eq!(Model.call(&mut store, &Call::Command(command)), Answer::Refused(3));
+        store.steps = vec![Step::default(); 16];
+        store.directory.csds.count = 33;
+        assert_eq!(Model.call(&mut store, &Call::Command(command)), Answer::Refused(4));
+    }
+
+    #[test]
+    fn inside_and_outside_go_by_the_sides() {
+        let mut s = fixture();
+        s.issuer(0, A);
+        s.link(0, B, X, DEFAULT);
+        let (inside, outside) = (account(A, PARTICIPANT), account(B, PARTICIPANT));
+        for form in FORMS {
+            for (from, to, due) in [(inside, outside, 16), (outside, inside, 17)] {
+                let (delivering, receiving) = halves(s.directory(), from, to, 0, 5, 0);
+                assert_eq!(number(s.send(form.derive(delivering, receiving))), due, "{form:?}");
+                assert_eq!(number(s.send(form.settle(delivering, receiving))), due, "{form:?}");
+            }
+        }
+    }
+
+    /// What a stream prints for a settlement and a derivation of these halves, and the totals.
+    fn printed(s: &Scenario, form: Form, delivering: Half, receiving: Half) -> String {
+        let mut bytes = s.bytes.clone();
+        let before = String::from_utf8(checker::transcript(&bytes)).unwrap().find("total").unwrap();
+        form.settle(delivering, receiving).write(&mut bytes);
+        form.derive(delivering, receiving).write(&mut bytes);
+        String::from_utf8(checker::transcript(&bytes)).unwrap()[before..].into()
+    }
+
+    #[test]
+    fn steps_run_from_delivering_to_receiving_whichever_half_stands_first() {
+        let (s, d, r) = funded();
+        let (first, last) = (account(B, PARTICIPANT), account(A, PARTICIPANT));
+        for form in FORMS {
+            let text = printed(&s, form, d, r);
+            let steps: Vec<&str> = text.lines().filter(|line| line.starts_with('-')).collect();
+            assert_eq!(steps.len(), 4, "{form:?}: {text}");
+            for chain in steps.chunks(2) {
+                assert!(chain[0].starts_with(&format!("- {B} {first} ")), "{form:?}: {text}");
+                assert!(chain[1].starts_with(&format!("- {A} ")), "{form:?}: {text}");
+                assert!(chain[1].ends_with(&format!(" {last}")), "{form:?}: {text}");
+            }
+        }
+    }
+
+    #[test]
+    fn cash_goes_from_the_receiving_to_the_delivering_side() {
+        for form in FORMS {
+            let (mut s, d, r) = funded();
+            let paid = |half| Half { amount: Cents(7), ..half };
+            assert_eq!(number(s.send(form.settle(paid(d), paid(r)))), 0);
+            assert_eq!([d, r].map(|half| s.session.cash()[usize::from(half.account)].0), [107, 93], "{form:?}");
+            let units = |half: Half| s.session.positions()[usize::from(half.account) * SECURITIES].0;
+            assert_eq!([units(d), units(r)], [95, 5], "{form:?}");
+        }
+    }
+
+    #[test]
+    fn operands_cut_by_one_byte_are_2() {
+        let (s, d, r) = funded();
+        for form in [Form::DeliveringFirst, Form::ReceivingFirst] {
+            let mut bytes = s.bytes.clone();
+            form.settle(d, r).write(&mut bytes);
+            assert_eq!(bytes.len(), s.bytes.len() + 43);
+            bytes.pop();
+            let text = String::from_utf8(checker::transcript(&bytes)).unwrap();
+            assert!(text.contains(" no 2\ntotal"), "{text}");
+        }
+    }
 }

@@ -1,9 +1,12 @@
-//! Desks that are wrong on purpose, each as document 01 warns of it. The trials must catch every one.
+//! Desks that are wrong on purpose, each as the documents warn of it or as they can be misread. The trials must
+//! catch every one.
 
+use checker::booking::SidedHalf;
 use checker::command::Command;
 use checker::trial::coverage::Coverage;
 use checker::trial::differential;
 use checker::trial::implementation::{Answer, Call, Implementation, Model, Program, Store};
+use checker::trial::literal::in_order;
 
 /// A change of the model's answer and of the store that it left, given the store before.
 type Mistake = fn(&Call, &Store, &mut Store, Answer) -> Answer;
@@ -46,7 +49,8 @@ fn booked_and_nothing_moved() {
 #[test]
 fn first_step_only() {
     is_caught(|call, before, store, answer| {
-        if let (Answer::Booked(2..), Call::Command(Command::Settle { delivering, .. })) = (answer, call) {
+        if let (Answer::Booked(2..), Call::Command(command)) = (answer, call) {
+            let Some((delivering, _)) = in_order(command) else { return answer };
             let place = |account: u16| usize::from(account) * 16 + usize::from(delivering.security);
             let first = store.steps[0];
             for (number, position) in store.positions.iter_mut().enumerate() {
@@ -108,7 +112,9 @@ fn a_refused_call_leaves_a_trace() {
         }
         if answer == Answer::Refused(22) {
             store.directory.links.rows[127].flag ^= 1;
-            store.positions[4095].0 ^= 1;
+            if let Some(position) = store.positions.last_mut() {
+                position.0 ^= 1;
+            }
         }
         answer
     });
@@ -117,13 +123,135 @@ fn a_refused_call_leaves_a_trace() {
 #[test]
 fn cash_paid_the_wrong_way() {
     is_caught(|call, _, store, answer| {
-        if let (Answer::Booked(_), Call::Command(Command::Settle { delivering, receiving })) = (answer, call) {
+        if let (Answer::Booked(_), Call::Command(command)) = (answer, call) {
+            let Some((delivering, receiving)) = in_order(command) else { return answer };
             let amount = delivering.amount.0;
             store.cash[usize::from(delivering.account)].0 -= 2 * amount;
             store.cash[usize::from(receiving.account)].0 += 2 * amount;
         }
         answer
     });
+}
+
+/// Document 02, ask 1: "The side in the half".
+mod sides {
+    use super::*;
+
+    /// The two halves of a sided call.
+    fn sided(call: &Call) -> Option<[SidedHalf; 2]> {
+        match *call {
+            Call::Command(Command::SettleSided { first, second } | Command::DeriveSided { first, second }) => {
+                Some([first, second])
+            }
+            _ => None,
+        }
+    }
+
+    /// What the model answers and leaves where the call has these sides instead.
+    fn with_sides(call: &Call, sides: [u8; 2], before: &Store, store: &mut Store) -> Answer {
+        let mut command = *call;
+        if let Call::Command(Command::SettleSided { first, second } | Command::DeriveSided { first, second }) =
+            &mut command
+        {
+            [first.side, second.side] = sides;
+        }
+        store.clone_from(before);
+        Model.call(store, &command)
+    }
+
+    #[test]
+    fn the_side_is_taken_from_the_place() {
+        is_caught(|call, before, store, answer| match sided(call).map(|halves| halves.map(|half| half.side)) {
+            Some([1, 0]) => with_sides(call, [0, 1], before, store),
+            _ => answer,
+        });
+    }
+
+    #[test]
+    fn sides_are_not_read() {
+        is_caught(|call, before, store, answer| match sided(call) {
+            Some(_) => with_sides(call, [0, 1], before, store),
+            None => answer,
+        });
+    }
+
+    #[test]
+    fn the_same_side_comes_behind_12() {
+        is_caught(|call, before, store, answer| match answer {
+            Answer::Refused(23) => match with_sides(call, [0, 1], before, &mut store.clone()) {
+                Answer::Refused(12) => Answer::Refused(12),
+                _ => answer,
+            },
+            _ => answer,
+        });
+    }
+
+    #[test]
+    fn the_same_side_comes_behind_13() {
+        is_caught(|call, before, store, answer| match answer {
+            Answer::Refused(23) => match with_sides(call, [0, 1], before, &mut store.clone()) {
+                Answer::Refused(13) => Answer::Refused(13),
+                _ => answer,
+            },
+            _ => answer,
+        });
+    }
+
+    #[test]
+    fn the_same_side_comes_before_10() {
+        is_caught(|call, _, _, answer| match (sided(call), answer) {
+            (Some([first, second]), Answer::Refused(10)) if first.side == second.side => Answer::Refused(23),
+            _ => answer,
+        });
+    }
+
+    #[test]
+    fn a_byte_2_is_taken_as_receiving() {
+        is_caught(|call, before, store, answer| match sided(call) {
+            Some(halves) if halves.iter().any(|half| half.side == 2) => {
+                with_sides(call, halves.map(|half| half.side.min(1)), before, store)
+            }
+            _ => answer,
+        });
+    }
+
+    #[test]
+    fn two_and_two_are_the_same_side() {
+        is_caught(|call, before, store, answer| match sided(call) {
+            Some([first, second]) if first.side == second.side && first.side > 1 => {
+                with_sides(call, [1, 1], before, store)
+            }
+            _ => answer,
+        });
+    }
+
+    #[test]
+    fn a_wrong_side_comes_before_6() {
+        is_caught(|call, _, _, answer| match (sided(call), answer) {
+            (Some(halves), Answer::Refused(6)) if halves.iter().any(|half| half.side > 1) => Answer::Refused(7),
+            _ => answer,
+        });
+    }
+
+    #[test]
+    fn inside_and_outside_go_by_the_place() {
+        is_caught(|call, _, _, answer| match (sided(call), answer) {
+            (Some([first, _]), Answer::Refused(number @ 16..=17)) if first.side == 1 => Answer::Refused(33 - number),
+            _ => answer,
+        });
+    }
+
+    #[test]
+    fn steps_run_from_the_first_half() {
+        is_caught(|call, _, store, answer| {
+            if let (Some([first, _]), Answer::Booked(length) | Answer::Chain(length)) = (sided(call), answer) {
+                if first.side == 1 {
+                    store.steps[..length].reverse();
+                }
+            }
+            answer
+        });
+    }
 }
 
 /// A failing stream comes down to the few commands that it takes.

@@ -18,12 +18,10 @@ const RUNS: usize = 100;
 const CALLS: u32 = 100;
 
 fn main() {
-    println!(
-        "{:34} {:>8} {:>18} {:>18} {:>14}",
-        "65,536 bytes of settlements", "commands", "model", "proved", "ratio"
-    );
+    println!("{:34} {:>8} {:>18} {:>18} {:>14}", "65,536 bytes of settlements", "commands", "model", "proved", "ratio");
     println!("{:34} {:>8} {:>18} {:>18} {:>14}", "", "", "best, median (ns)", "best, median (ns)", "best, median");
     report("all chain lengths, full tables", &busy::mixed());
+    report("the same with sided halves", &busy::sided());
     for full in [false, true] {
         for steps in [1, 2, 4, 8, 16] {
             let tables = if full { "full tables" } else { "small tables" };

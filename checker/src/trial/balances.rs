@@ -2,7 +2,7 @@
 //! balances that hold after it. Nothing is taken from the directory that an implementation returns.
 
 use super::implementation::{Answer, Call, Store};
-use super::literal::Rows;
+use super::literal::{in_order, Rows};
 use crate::booking::{Cents, Units};
 use crate::command::Command;
 use crate::directory::*;
@@ -53,8 +53,9 @@ impl Balances {
             Command::TakeOut { account, security, quantity } => self.bring_in(account, security, -quantity.0)?,
             Command::PayIn { account, amount } => self.pay_in(account, amount.0),
             Command::PayOut { account, amount } => self.pay_in(account, -amount.0),
-            Command::Derive { .. } => {}
-            Command::Settle { delivering, receiving } => {
+            Command::Derive { .. } | Command::DeriveSided { .. } => {}
+            Command::Settle { .. } | Command::SettleSided { .. } => {
+                let (delivering, receiving) = in_order(command).ok_or("booked without two sides")?;
                 let (security, quantity) = (delivering.security, delivering.quantity.0);
                 let chain = self.rows.chain(security, delivering.account, receiving.account);
                 let (_, steps) = chain.map_err(|number| format!("booked without a chain: {number}"))?;

@@ -1,7 +1,8 @@
 //! Streams as long as the program takes, full of settlements, for measuring and as vectors.
 
+use super::forms::Form;
 use super::random::Random;
-use super::scenario::Scenario;
+use super::scenario::{halves, Scenario};
 use crate::directory::*;
 use crate::transcript::INPUT_LIMIT;
 
@@ -45,28 +46,42 @@ impl Market {
         (self.delivering[8 - near], self.receiving[8 - (steps - near)])
     }
 
-    /// Settles one unit there and back in turn, and cash with it, until the stream is as long as may be.
-    pub fn settle_to_the_limit(mut self, mut steps: impl FnMut() -> usize) -> Vec<u8> {
+    /// Settles one unit there and back in turn, over so many steps and in the form drawn, until the stream is
+    /// as long as may be.
+    pub fn settle_to_the_limit(mut self, mut draw: impl FnMut() -> (usize, Form)) -> Vec<u8> {
         let mut there = true;
-        while self.scenario.bytes.len() + SETTLE_BYTES <= INPUT_LIMIT {
-            let (one, other) = self.trade(steps());
+        loop {
+            let length = self.scenario.bytes.len();
+            let (steps, form) = draw();
+            let (one, other) = self.trade(steps);
             let (from, to) = if there { (one, other) } else { (other, one) };
-            let _ = self.scenario.settle(from, to, self.security, 1, 0);
+            let (delivering, receiving) = halves(self.scenario.directory(), from, to, self.security, 1, 0);
+            let _ = self.scenario.send(form.settle(delivering, receiving));
+            if self.scenario.bytes.len() > INPUT_LIMIT {
+                self.scenario.bytes.truncate(length);
+                return self.scenario.bytes;
+            }
             there = !there;
         }
-        self.scenario.bytes
     }
 }
 
 /// A stream of settlements of one chain length.
 pub fn settlements(steps: usize, full: bool) -> Vec<u8> {
-    Market::new(full).settle_to_the_limit(|| steps)
+    Market::new(full).settle_to_the_limit(|| (steps, Form::ByPlace))
+}
+
+/// A stream of sided settlements of all chain lengths in turn over full tables, either half first.
+pub fn sided() -> Vec<u8> {
+    let mut random = Random::new(16);
+    Market::new(true)
+        .settle_to_the_limit(|| (random.between(1, 16), random.pick(&[Form::DeliveringFirst, Form::ReceivingFirst])))
 }
 
 /// A stream of settlements of all chain lengths in turn over full tables, of exactly the limit.
 pub fn mixed() -> Vec<u8> {
     let mut random = Random::new(16);
-    let mut bytes = Market::new(true).settle_to_the_limit(|| random.between(1, 16));
+    let mut bytes = Market::new(true).settle_to_the_limit(|| (random.between(1, 16), Form::ByPlace));
     let settled = bytes.len() - (INPUT_LIMIT - bytes.len()) % ACCOUNT_BYTES * SETTLE_BYTES;
     bytes.truncate(settled);
     while bytes.len() + ACCOUNT_BYTES <= INPUT_LIMIT {
@@ -121,6 +136,7 @@ fn fill_pairs_and_accounts(scenario: &mut Scenario) {
 #[cfg(test)]
 mod tests {
     use super::*;
+    use crate::command::{Command, Reader};
     use crate::transcript;
 
     #[test]
@@ -144,6 +160,21 @@ mod tests {
         let counts = [directory.csds.count, directory.securities.count, directory.accounts.count];
         assert_eq!(counts, [CSDS, SECURITIES, ACCOUNTS]);
         assert_eq!([directory.pairs.count, directory.links.count], [PAIRS, LINKS]);
+    }
+
+    #[test]
+    fn sided_settlements_are_booked_in_both_orders() {
+        let bytes = sided();
+        assert!(bytes.len() + 43 > INPUT_LIMIT && bytes.len() <= INPUT_LIMIT);
+        assert!(!String::from_utf8(transcript(&bytes)).unwrap().contains(" no "));
+        let mut reader = Reader::new(&bytes);
+        let mut orders = [0; 2];
+        while let Ok(command) = reader.command() {
+            if let Command::SettleSided { first, .. } = command {
+                orders[usize::from(first.side)] += 1;
+            }
+        }
+        assert!(orders.iter().all(|&times| times > 400), "{orders:?}");
     }
 
     #[test]

@@ -1,17 +1,18 @@
 //! Random commands over a directory: mostly sensible ones, so that they get far, and damaged ones, so
 //! that they are refused in every place.
 
+use super::forms::{NO_SIDES, SAME_SIDES};
 use super::random::Random;
 use super::scenario::{halves, with_check_digit};
-use crate::booking::{Cents, Half, Units};
+use crate::booking::{Cents, Half, Halves, SidedHalf, Units, DELIVERING, RECEIVING};
 use crate::command::{Command, Reader};
 use crate::directory::*;
 use crate::register::Register;
 
 /// How often each command is drawn.
-const CODES: [u8; 24] = [
-    0x01, 0x02, 0x02, 0x03, 0x04, 0x04, 0x05, 0x05, 0x05, 0x06, 0x06, 0x07, 0x07, 0x08, 0x09, 0x0A, 0x0A, 0x0A, 0x0A,
-    0x0A, 0x0B, 0x0B, 0x0B, 0x0B,
+const CODES: [u8; 30] = [
+    0x01, 0x02, 0x02, 0x03, 0x04, 0x04, 0x05, 0x05, 0x05, 0x06, 0x06, 0x07, 0x07, 0x08, 0x09, 0x0A, 0x0A, 0x0A, 0x0B,
+    0x0B, 0x0B, 0x0C, 0x0C, 0x0C, 0x0C, 0x0C, 0x0D, 0x0D, 0x0D, 0x0D,
 ];
 
 pub fn command(random: &mut Random, directory: &Directory) -> Command {
@@ -38,7 +39,9 @@ fn command_of(code: u8, random: &mut Random, directory: &Directory) -> Command {
         0x08 => Command::PayIn { account: draw.participant(), amount: draw.cents() },
         0x09 => Command::PayOut { account: draw.participant(), amount: draw.cents() },
         0x0A => draw.halves(|delivering, receiving| Command::Settle { delivering, receiving }),
-        _ => draw.halves(|delivering, receiving| Command::Derive { delivering, receiving }),
+        0x0B => draw.halves(|delivering, receiving| Command::Derive { delivering, receiving }),
+        0x0C => draw.sided_halves(|first, second| Command::SettleSided { first, second }),
+        _ => draw.sided_halves(|first, second| Command::DeriveSided { first, second }),
     };
     if random.percent(20) {
         damaged(random, command)
@@ -188,17 +191,33 @@ impl Draw<'_> {
     }
 
     /// Halves that go together, mostly between accounts with a chain.
-    fn halves(&mut self, command: impl Fn(Half, Half) -> Command) -> Command {
+    fn halves<T>(&mut self, command: impl Fn(Half, Half) -> T) -> T {
         let register = Register::of(self.directory);
         let amount = if self.random.percent(50) { 0 } else { self.value() };
         let quantity = self.value();
         loop {
             let (from, to, security) = (self.participant(), self.participant(), self.security());
             let (delivering, receiving) = halves(self.directory, from, to, security, quantity, amount);
-            let chain = register.as_ref().is_ok_and(|register| register.derive_halves(&delivering, &receiving).is_ok());
+            let ordered = Halves::by_place(&delivering, &receiving);
+            let chain = register.as_ref().is_ok_and(|register| register.derive_halves(ordered).is_ok());
             if chain || self.random.percent(30) {
                 return command(delivering, receiving);
             }
         }
+    }
+
+    /// The same in either order, mostly with the sides that they have.
+    fn sided_halves(&mut self, command: impl Fn(SidedHalf, SidedHalf) -> Command) -> Command {
+        let mut sided = self.halves(|delivering, receiving| {
+            [SidedHalf { side: DELIVERING, half: delivering }, SidedHalf { side: RECEIVING, half: receiving }]
+        });
+        self.random.shuffle(&mut sided);
+        let [mut first, mut second] = sided;
+        [first.side, second.side] = match self.random.below(10) {
+            0 => self.random.pick(&SAME_SIDES),
+            1 => self.random.pick(&NO_SIDES),
+            _ => [first.side, second.side],
+        };
+        command(first, second)
     }
 }

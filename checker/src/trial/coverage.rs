@@ -1,4 +1,4 @@
-//! Counters of what random inputs reached, and the tables of what document 01 lets occur.
+//! Counters of what random inputs reached, and the tables of what the documents let occur.
 
 use std::collections::BTreeMap;
 use std::fmt::{self, Display, Formatter};
@@ -10,7 +10,7 @@ use crate::command::Command;
 
 /// A command's name with the refusals that it can give in a stream, and those that it can give as a
 /// single call besides. Over a store reached from empty a pay-out never ends beyond the bound.
-pub const COMMANDS: [(&str, &[u8], &[u8]); 11] = [
+pub const COMMANDS: [(&str, &[u8], &[u8]); 13] = [
     ("enter CSD", &[2, 5, 7, 9], &[4]),
     ("enter security", &[2, 5, 7, 8, 9], &[4]),
     ("enter account", &[2, 5, 6, 7, 10], &[4]),
@@ -22,6 +22,21 @@ pub const COMMANDS: [(&str, &[u8], &[u8]); 11] = [
     ("pay out", &[2, 6, 7, 10, 21], &[3, 4, 22]),
     ("settle", &[2, 6, 7, 10, 12, 13, 14, 15, 16, 17, 18, 20, 21, 22], &[3, 4]),
     ("derive", &[2, 6, 7, 10, 12, 13, 14, 15, 16, 17, 18], &[3, 4]),
+    ("settle sided", &[2, 6, 7, 10, 23, 12, 13, 14, 15, 16, 17, 18, 20, 21, 22], &[3, 4]),
+    ("derive sided", &[2, 6, 7, 10, 23, 12, 13, 14, 15, 16, 17, 18], &[3, 4]),
+];
+
+/// How the sides of a sided command can stand, with what a call can then be answered beyond 4; 0 stands for
+/// acceptance.
+pub const SIDES: [(&str, &[u8]); 8] = [
+    ("settle, delivering half first", &[0, 6, 7, 10, 12, 13, 14, 15, 16, 17, 18, 20, 21, 22]),
+    ("settle, receiving half first", &[0, 6, 7, 10, 12, 13, 14, 15, 16, 17, 18, 20, 21, 22]),
+    ("settle, the same side twice", &[6, 7, 10, 23]),
+    ("settle, a byte that is no side", &[6, 7]),
+    ("derive, delivering half first", &[0, 6, 7, 10, 12, 13, 14, 15, 16, 17, 18]),
+    ("derive, receiving half first", &[0, 6, 7, 10, 12, 13, 14, 15, 16, 17, 18]),
+    ("derive, the same side twice", &[6, 7, 10, 23]),
+    ("derive, a byte that is no side", &[6, 7]),
 ];
 
 /// The flaws that make a directory unsound, by table: 5 is a count beyond the limit.
@@ -54,6 +69,7 @@ pub const LENGTHS: [(ChainKind, RangeInclusive<usize>); 7] = [
 #[derive(Default)]
 pub struct Coverage {
     answers: BTreeMap<(&'static str, u8), u64>,
+    sides: BTreeMap<(&'static str, u8), u64>,
     flaws: BTreeMap<(&'static str, u8), u64>,
     chains: BTreeMap<(&'static str, ChainKind, usize), u64>,
 }
@@ -71,11 +87,35 @@ pub fn call_name(call: &Call) -> &'static str {
     }
 }
 
+/// How the sides of a command stand, if it has any.
+fn sides_name(command: &Command) -> Option<&'static str> {
+    let (place, sides) = match command {
+        Command::SettleSided { first, second } => (0, [first.side, second.side]),
+        Command::DeriveSided { first, second } => (4, [first.side, second.side]),
+        _ => return None,
+    };
+    let way = match sides {
+        [0, 1] => 0,
+        [1, 0] => 1,
+        [0, 0] | [1, 1] => 2,
+        _ => 3,
+    };
+    Some(SIDES[place + way].0)
+}
+
 impl Coverage {
-    /// Counts an answer; 0 stands for acceptance.
+    /// Counts the answer to a call.
+    pub fn call(&mut self, call: &Call, answer: &Answer) {
+        self.answer(call_name(call), answer);
+        let Call::Command(command) = call else { return };
+        if let (Some(name), false) = (sides_name(command), matches!(answer, Answer::Refused(3..=4))) {
+            *self.sides.entry((name, number(answer))).or_default() += 1;
+        }
+    }
+
+    /// Counts an answer by the name of what was called.
     pub fn answer(&mut self, name: &'static str, answer: &Answer) {
-        let number = if let Answer::Refused(number) = answer { *number } else { 0 };
-        *self.answers.entry((name, number)).or_default() += 1;
+        *self.answers.entry((name, number(answer))).or_default() += 1;
     }
 
     /// Counts the flaw of a directory that was found unsound.
@@ -84,7 +124,8 @@ impl Coverage {
     }
 
     pub fn chain(&mut self, command: &Command, kind: ChainKind, length: usize) {
-        *self.chains.entry((command_name(command.code()), kind, length)).or_default() += 1;
+        let name = sides_name(command).unwrap_or(command_name(command.code()));
+        *self.chains.entry((name, kind, length)).or_default() += 1;
     }
 
     pub fn answers(&self) -> u64 {
@@ -95,7 +136,7 @@ impl Coverage {
     pub fn of_streams(&self) -> Vec<String> {
         let expected = COMMANDS.iter().flat_map(|&(name, refusals, _)| numbered(name, &[refusals, &[0]].concat()));
         let wrong = compare(&self.answers, expected.chain([(UNKNOWN, 1)]).collect());
-        [wrong, self.chains_missing()].concat()
+        [wrong, self.sides_missing(), self.chains_missing()].concat()
     }
 
     /// The same for single calls.
@@ -106,11 +147,17 @@ impl Coverage {
         });
         let totals = TOTALS.iter().flat_map(|&(name, refusals)| numbered(name, &[refusals, &[0]].concat()));
         let flaws = FLAWS.iter().flat_map(|&(table, numbers)| numbered(table, numbers));
-        [compare(&self.answers, commands.chain(totals).collect()), compare(&self.flaws, flaws.collect())].concat()
+        let wrong = compare(&self.answers, commands.chain(totals).collect());
+        [wrong, self.sides_missing(), compare(&self.flaws, flaws.collect())].concat()
+    }
+
+    fn sides_missing(&self) -> Vec<String> {
+        compare(&self.sides, SIDES.iter().flat_map(|&(name, numbers)| numbered(name, numbers)).collect())
     }
 
     fn chains_missing(&self) -> Vec<String> {
-        let names = [command_name(0x0A), command_name(0x0B)];
+        let sided = SIDES.iter().filter(|(_, numbers)| numbers.contains(&0)).map(|&(name, _)| name);
+        let names: Vec<_> = [command_name(0x0A), command_name(0x0B)].into_iter().chain(sided).collect();
         let possible = LENGTHS.iter().flat_map(|(kind, lengths)| lengths.clone().map(|length| (*kind, length)));
         let possible: Vec<_> =
             names.iter().flat_map(|&name| possible.clone().map(move |(k, n)| (name, k, n))).collect();
@@ -118,6 +165,15 @@ impl Coverage {
         let missing = missing.map(|(name, kind, length)| format!("{name}: no {kind:?} of {length} steps"));
         let strange = self.chains.keys().filter(|key| !possible.contains(key));
         missing.chain(strange.map(|(name, kind, length)| format!("{name}: a {kind:?} of {length} steps"))).collect()
+    }
+}
+
+/// The number of a refusal, or 0 for acceptance.
+fn number(answer: &Answer) -> u8 {
+    if let Answer::Refused(number) = answer {
+        *number
+    } else {
+        0
     }
 }
 
@@ -136,15 +192,15 @@ fn numbered(name: &'static str, numbers: &[u8]) -> Vec<(&'static str, u8)> {
 
 impl Display for Coverage {
     fn fmt(&self, formatter: &mut Formatter) -> fmt::Result {
-        for ((name, number), times) in &self.answers {
+        for ((name, number), times) in self.answers.iter().chain(&self.sides) {
             let answer = if *number == 0 { "accepted".into() } else { format!("no {number}") };
-            writeln!(formatter, "{name:16} {answer:9} {times:9}")?;
+            writeln!(formatter, "{name:30} {answer:9} {times:9}")?;
         }
         for ((table, number), times) in &self.flaws {
             writeln!(formatter, "unsound by {table}: {number:3} {times:9}")?;
         }
         for ((name, kind, length), times) in &self.chains {
-            writeln!(formatter, "{name:16} {kind:?} of {length}: {times}")?;
+            writeln!(formatter, "{name:30} {kind:?} of {length}: {times}")?;
         }
         Ok(())
     }

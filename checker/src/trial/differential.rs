@@ -3,9 +3,10 @@
 
 use super::balances::Balances;
 use super::calls;
-use super::coverage::{call_name, command_name, Coverage};
+use super::coverage::{command_name, Coverage};
+use super::forms::{others, turned_stream};
 use super::implementation::{copy, Answer, Call, Implementation, Model, Program, Store};
-use super::literal::Rows;
+use super::literal::{in_order, Rows};
 use super::random::Random;
 use super::streams;
 use crate::chain::{Step, STEPS};
@@ -15,11 +16,7 @@ use crate::register::Register;
 use crate::text::Text;
 
 /// The seed's stream.
-pub fn stream(
-    seed: u64,
-    subject: &mut (impl Implementation + Program),
-    coverage: &mut Coverage,
-) -> Result<(), String> {
+pub fn stream(seed: u64, subject: &mut (impl Implementation + Program), coverage: &mut Coverage) -> Result<(), String> {
     stream_of(&streams::stream(seed), seed, subject, coverage)
 }
 
@@ -35,10 +32,15 @@ pub fn stream_of(
     list_of(bytes, seed, subject, coverage)
 }
 
-/// A stream as bytes.
+/// A stream as bytes, and with the halves of its sided commands turned.
 pub fn text_of(bytes: &[u8], subject: &mut impl Program) -> Result<(), String> {
-    let printed = subject.transcript(bytes);
-    same_text(&crate::transcript(bytes), &printed).map_err(|line| format!("transcript, {line}"))
+    let expected = crate::transcript(bytes);
+    same_text(&expected, &subject.transcript(bytes)).map_err(|line| format!("transcript, {line}"))?;
+    let turned = turned_stream(bytes);
+    if turned == bytes {
+        return Ok(());
+    }
+    same_text(&expected, &subject.transcript(&turned)).map_err(|line| format!("transcript with halves turned, {line}"))
 }
 
 /// A stream's commands as a list of calls.
@@ -83,8 +85,8 @@ pub fn calls(seed: u64, subject: &mut impl Implementation, coverage: &mut Covera
         copy(&store, &mut before);
         other.steps.clone_from(&store.steps);
         let expected = Model.call(&mut store, &call);
-        let answer = subject.call(&mut other, &call);
         let place = |text: String| format!("call {number}, {call:?}: {text}");
+        let answer = answer_in_every_form(subject, &mut other, &call).map_err(place)?;
         if answer != expected {
             return Err(place(format!("{answer:?}, not {expected:?}")));
         }
@@ -94,7 +96,7 @@ pub fn calls(seed: u64, subject: &mut impl Implementation, coverage: &mut Covera
         if matches!(answer, Answer::Refused(_)) && other != before {
             return Err(place("refused, but something changed".into()));
         }
-        coverage.answer(call_name(&call), &answer);
+        coverage.call(&call, &answer);
         if matches!(answer, Answer::Booked(_) | Answer::Chain(_) | Answer::Refused(14..=18)) {
             let rows = Rows::from(&before.directory);
             same_chain(&rows, &call, &answer, &other.steps, coverage).map_err(place)?;
@@ -138,8 +140,8 @@ fn list_of_calls(
         };
         let call = Call::Command(command);
         lend_steps(&mut random, &mut store, subject, &call).map_err(place)?;
-        let answer = subject.call(&mut store, &call);
-        coverage.answer(command_name(code), &answer);
+        let answer = answer_in_every_form(subject, &mut store, &call).map_err(place)?;
+        coverage.call(&call, &answer);
         same_chain(&balances.rows, &call, &answer, &store.steps, coverage).map_err(place)?;
         balances.after(&call, &answer, &store).map_err(place)?;
         print(&mut text, number, &answer, &store.steps)?;
@@ -160,7 +162,9 @@ fn lend_steps(
     call: &Call,
 ) -> Result<(), String> {
     store.steps = calls::steps(random);
-    let lent_steps = matches!(call, Call::Command(Command::Settle { .. } | Command::Derive { .. }));
+    use Command::*;
+    let lent_steps =
+        matches!(call, Call::Command(Settle { .. } | Derive { .. } | SettleSided { .. } | DeriveSided { .. }));
     if store.steps.len() < STEPS {
         if lent_steps {
             let before = store.clone();
@@ -173,6 +177,26 @@ fn lend_steps(
     Ok(())
 }
 
+/// Answers a call. "Either order gives the same chain and booking": a sided call in its other forms, each over a copy
+/// of the store, gets the same answer and leaves the same.
+fn answer_in_every_form(subject: &mut impl Implementation, store: &mut Store, call: &Call) -> Result<Answer, String> {
+    let others: Vec<(Call, Store)> = match call {
+        Call::Command(command) => others(command).map(|other| (Call::Command(other), store.clone())).collect(),
+        _ => Vec::new(),
+    };
+    let answer = subject.call(store, call);
+    for (other, mut left) in others {
+        let other_answer = subject.call(&mut left, &other);
+        if other_answer != answer {
+            return Err(format!("{answer:?}, but {other_answer:?} to {other:?}"));
+        }
+        if let Some(part) = difference(store, &left) {
+            return Err(format!("{answer:?}, but another {part} by {other:?}"));
+        }
+    }
+    Ok(answer)
+}
+
 /// The steps of a chain are those of the literal reading, which also tells its kind.
 fn same_chain(
     rows: &Rows,
@@ -181,11 +205,14 @@ fn same_chain(
     steps: &[Step],
     coverage: &mut Coverage,
 ) -> Result<(), String> {
-    let Call::Command(
-        command @ (Command::Settle { delivering, receiving } | Command::Derive { delivering, receiving }),
-    ) = call
-    else {
-        return Ok(());
+    let Call::Command(command) = call else { return Ok(()) };
+    let Some((delivering, receiving)) = in_order(command) else {
+        return match answer {
+            Answer::Booked(_) | Answer::Chain(_) | Answer::Refused(12..=18) => {
+                Err(format!("{answer:?} without two sides"))
+            }
+            _ => Ok(()),
+        };
     };
     let chain = |rows: &Rows| rows.chain(delivering.security, delivering.account, receiving.account);
     match answer {

@@ -1,7 +1,7 @@
 //! What the differential tests ask of an implementation, so that a second one can be held against
 //! the model: a transcript of bytes, and single calls over a store of any content.
 
-use crate::booking::{Cents, Direction, Units};
+use crate::booking::{Cents, Direction, Halves, Units};
 use crate::chain::Step;
 use crate::command::Command;
 use crate::desk;
@@ -101,10 +101,18 @@ fn answer(store: &mut Store, call: &Call) -> Result<Answer, Refusal> {
         Command::PayIn { account, amount } => desk::move_cash(directory, cash, Direction::In, account, amount)?,
         Command::PayOut { account, amount } => desk::move_cash(directory, cash, Direction::Out, account, amount)?,
         Command::Settle { delivering, receiving } => {
-            return desk::settle(directory, positions, cash, steps, &delivering, &receiving).map(Answer::Booked)
+            let halves = Halves::by_place(&delivering, &receiving);
+            return desk::settle(directory, positions, cash, steps, halves).map(Answer::Booked);
         }
         Command::Derive { delivering, receiving } => {
-            return desk::derive(directory, steps, &delivering, &receiving).map(Answer::Chain)
+            return desk::derive(directory, steps, Halves::by_place(&delivering, &receiving)).map(Answer::Chain)
+        }
+        Command::SettleSided { first, second } => {
+            let halves = Halves::by_side(&first, &second);
+            return desk::settle(directory, positions, cash, steps, halves).map(Answer::Booked);
+        }
+        Command::DeriveSided { first, second } => {
+            return desk::derive(directory, steps, Halves::by_side(&first, &second)).map(Answer::Chain)
         }
     }
     Ok(Answer::Accepted)

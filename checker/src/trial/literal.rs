@@ -1,8 +1,10 @@
-//! Walks and chains once more, word by word from document 01 over plain lists of rows, without any
+//! Walks, chains and sides once more, word by word from the documents over plain lists of rows, without any
 //! look-up table. Slow, short, and the measure of demand 3: "the chain of a settlement is the one that
 //! this document gives for its operands over the directory that the accepted calls before it make".
 
+use crate::booking::Half;
 use crate::chain::Step;
+use crate::command::Command;
 use crate::directory::*;
 
 /// Rows that were accepted, in order of entry.
@@ -38,6 +40,20 @@ impl From<&Directory> for Rows {
             pairs: record.pairs.entered().unwrap_or_default().to_vec(),
             links: record.links.entered().unwrap_or_default().to_vec(),
         }
+    }
+}
+
+/// The delivering and the receiving half of a command: by place, or the one that says 0 and the one that says 1.
+pub fn in_order(command: &Command) -> Option<(Half, Half)> {
+    match *command {
+        Command::Settle { delivering, receiving } | Command::Derive { delivering, receiving } => {
+            Some((delivering, receiving))
+        }
+        Command::SettleSided { first, second } | Command::DeriveSided { first, second } => {
+            let says = |side: u8| [first, second].into_iter().find(|sided| sided.side == side).map(|sided| sided.half);
+            says(0).zip(says(1))
+        }
+        _ => None,
     }
 }
 

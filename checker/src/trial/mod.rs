@@ -1,4 +1,4 @@
-//! What an implementation of document 01 is tried with: scenarios, random streams and single calls,
+//! What an implementation of the documents is tried with: scenarios, random streams and single calls,
 //! demand 3's balances, and counters of what was seen.
 
 pub mod balances;
@@ -7,6 +7,7 @@ pub mod calls;
 pub mod commands;
 pub mod coverage;
 pub mod differential;
+pub mod forms;
 pub mod implementation;
 pub mod literal;
 pub mod random;

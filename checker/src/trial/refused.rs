@@ -1,11 +1,12 @@
-//! Vectors of refusals: every number that a stream can give to each command, in every way that document 01
-//! words it.
+//! Vectors of refusals: every number that a stream can give to each command, in every way that the documents
+//! word it.
 
 use std::ops::RangeInclusive;
 
 use super::coverage::{command_name, COMMANDS};
+use super::forms::{Form, NO_SIDES, SAME_SIDES};
 use super::scenario::{bic, halves, isin_of, Scenario};
-use crate::booking::{Cents, Half, Units, BOUND};
+use crate::booking::{Cents, Half, SidedHalf, Units, BOUND};
 use crate::command::Command;
 use crate::directory::*;
 
@@ -235,6 +236,25 @@ fn inter_csd_to_the_bound(refused: &mut Refused) {
 
 /// Settle and derive: the two halves, the chain, and the booking.
 pub fn settlements() -> Vec<u8> {
+    let (refused, _) = settlements_in(&[Form::ByPlace]);
+    refused.bytes(0x0A..=0x0B)
+}
+
+/// The same with sides and either half first, then all wrong sides beside right and wrong halves.
+pub fn sided_settlements() -> Vec<u8> {
+    let (mut refused, tried) = settlements_in(&[Form::DeliveringFirst, Form::ReceivingFirst]);
+    for (one, other) in tried {
+        for [side, other_side] in [&SAME_SIDES[..], &NO_SIDES].concat() {
+            let (first, second) = (SidedHalf { side, half: one }, SidedHalf { side: other_side, half: other });
+            refused.send(Command::SettleSided { first, second });
+            refused.send(Command::DeriveSided { first, second });
+        }
+    }
+    refused.bytes(0x0C..=0x0D)
+}
+
+/// Halves that are refused, each pair settled and derived in every form, and the pairs tried with a right one last.
+fn settlements_in(forms: &[Form]) -> (Refused, Vec<(Half, Half)>) {
     let mut refused = Refused::over_three_csds();
     let scenario = &mut refused.scenario;
     scenario.security();
@@ -254,14 +274,18 @@ pub fn settlements() -> Vec<u8> {
 
     let chains = [(a, a), (u, a), (a, u), (c, a), (a, c), (c, u), (b, o), (o, b), (behind, i), (i, behind)];
     let directory = scenario.directory();
-    let mut wrong = wrong_halves(halves(directory, a, b, 0, 1, 0));
-    wrong.extend(chains.map(|(from, to)| halves(directory, from, to, 0, 1, 0)));
-    for (delivering, receiving) in wrong {
-        refused.send(Command::Settle { delivering, receiving });
-        refused.send(Command::Derive { delivering, receiving });
+    let right = halves(directory, a, b, 0, 1, 0);
+    let mut tried = wrong_halves(right);
+    tried.extend(chains.map(|(from, to)| halves(directory, from, to, 0, 1, 0)));
+    for &(delivering, receiving) in &tried {
+        for form in forms {
+            refused.send(form.settle(delivering, receiving));
+            refused.send(form.derive(delivering, receiving));
+        }
     }
-    bookings(&mut refused, a, b, i);
-    refused.bytes(0x0A..=0x0B)
+    bookings(&mut refused, forms, a, b, i);
+    tried.push(right);
+    (refused, tried)
 }
 
 /// Each side of two halves made wrong in every way.
@@ -290,7 +314,7 @@ fn wrong_halves(right: (Half, Half)) -> Vec<(Half, Half)> {
 }
 
 /// Settlements between A, its issuer B and another issuer, short or beyond the bound.
-fn bookings(refused: &mut Refused, a: u16, b: u16, other: u16) {
+fn bookings(refused: &mut Refused, forms: &[Form], a: u16, b: u16, other: u16) {
     let scenario = &mut refused.scenario;
     let second = scenario.account(B, PARTICIPANT);
     for issuer in [b, other] {
@@ -303,6 +327,6 @@ fn bookings(refused: &mut Refused, a: u16, b: u16, other: u16) {
         [(a, b, 1, 0), (second, b, 1, 0), (b, second, 1, 1), (b, a, 1, 1), (other, b, 1, 0), (other, b, BOUND, 0)]
     {
         let (delivering, receiving) = halves(refused.scenario.directory(), from, to, 0, quantity, amount);
-        refused.send(Command::Settle { delivering, receiving });
+        forms.iter().for_each(|form| refused.send(form.settle(delivering, receiving)));
     }
 }

@@ -3,9 +3,10 @@
 
 use super::commands;
 use super::coverage::LENGTHS;
+use super::forms::FORMS;
 use super::literal::{ChainKind, Rows};
 use super::random::Random;
-use super::scenario::Scenario;
+use super::scenario::{halves, Scenario};
 use crate::booking::BOUND;
 use crate::directory::*;
 use crate::transcript::INPUT_LIMIT;
@@ -247,8 +248,11 @@ impl Writer<'_> {
             }
             for (from, to) in [(ends[0], ends[1]), (ends[1], ends[0])] {
                 let (quantity, amount) = (self.random.between(1, 9) as i64, self.random.below(2) as i64);
-                let _ = self.scenario.settle(from, to, security, quantity, amount);
-                let _ = self.scenario.derive(from, to, security, quantity, amount);
+                let (delivering, receiving) = halves(self.scenario.directory(), from, to, security, quantity, amount);
+                for form in FORMS {
+                    let _ = self.scenario.send(form.settle(delivering, receiving));
+                    let _ = self.scenario.send(form.derive(delivering, receiving));
+                }
             }
         }
         let second = self.scenario.account(csds[0], PARTICIPANT);
@@ -274,12 +278,14 @@ impl Writer<'_> {
         let security = self.random.pick(securities);
         let quantity = self.random.some_number();
         let amount = if self.random.percent(60) { 0 } else { self.random.some_number() };
+        let form = self.random.pick(&FORMS);
         let scenario = &mut self.scenario;
+        let (delivering, receiving) = halves(scenario.directory(), from, to, security, quantity, amount);
         let _ = match self.random.below(8) {
-            0..=3 => scenario.settle(from, to, security, quantity, amount),
+            0..=3 => scenario.send(form.settle(delivering, receiving)),
             4 => scenario.take_out(from, security, quantity),
             5 => scenario.pay_out(from, amount),
-            _ => scenario.derive(from, to, security, quantity, amount),
+            _ => scenario.send(form.derive(delivering, receiving)),
         };
     }
 

@@ -1,9 +1,10 @@
-//! Inputs that are worth keeping: every refusal of every command, chains of every kind and length, the
-//! ends of the input's length, damaged streams, and large sums. The model's transcripts are their outputs.
+//! Inputs that are worth keeping: every refusal of every command, chains of every kind and length, sided halves
+//! in either order, the ends of the input's length, damaged streams, and large sums. The model's transcripts are their outputs.
 
 use super::busy;
+use super::forms::{Form, FORMS};
 use super::refused;
-use super::scenario::Scenario;
+use super::scenario::{halves, Scenario};
 use crate::booking::BOUND;
 use crate::directory::*;
 
@@ -11,16 +12,23 @@ use crate::directory::*;
 pub fn vectors() -> Vec<(&'static str, Vec<u8>)> {
     let mut too_long = busy::mixed();
     too_long.push(0);
+    let by_place = &[Form::ByPlace];
     vec![
         ("refused-entries", refused::entries()),
         ("refused-instructions", refused::instructions()),
         ("refused-settlements", refused::settlements()),
-        ("chains-shared-inside", chains([8, 7], [Top::Issuer, Top::Joined], None)),
-        ("chains-shared-outside", chains([7, 6], [Top::External, Top::Joined], None)),
-        ("chains-two-issuers", chains([8, 8], [Top::Issuer, Top::Issuer], None)),
-        ("chains-both-outside", chains([7, 7], [Top::External, Top::External], None)),
-        ("chains-directed", chains([7, 1], [Top::External, Top::External], Some((6, 0)))),
+        ("chains-shared-inside", chains(by_place, [8, 7], [Top::Issuer, Top::Joined], None)),
+        ("chains-shared-outside", chains(by_place, [7, 6], [Top::External, Top::Joined], None)),
+        ("chains-two-issuers", chains(by_place, [8, 8], [Top::Issuer, Top::Issuer], None)),
+        ("chains-both-outside", chains(by_place, [7, 7], [Top::External, Top::External], None)),
+        ("chains-directed", chains(by_place, [7, 1], [Top::External, Top::External], Some((6, 0)))),
+        ("sided-orders", chains(&FORMS, [8, 8], [Top::Issuer, Top::Issuer], None)),
+        ("sided-orders-directed", chains(&FORMS, [7, 1], [Top::External, Top::External], Some((6, 0)))),
+        ("sided-refusals", refused::sided_settlements()),
+        ("sided-cut-by-one", cut_or_unknown(&[0x0C; 42])),
+        ("sided-cut-before-second-half", cut_or_unknown(&[0x0D; 22])),
         ("large-sums", large_sums()),
+        ("empty", Vec::new()),
         ("unknown-byte", cut_or_unknown(&[0x00])),
         ("cut-command-byte-alone", cut_or_unknown(&[0x01])),
         ("cut-settle-by-one", cut_or_unknown(&[0x0A; 40])),
@@ -38,9 +46,9 @@ enum Top {
 }
 
 /// Two sides of given lengths, and between their participants chains of every length that they allow, each
-/// derived and settled both ways, the first way for cash. An alternative leads from a place on the first side
-/// to one on the second.
-fn chains(lengths: [usize; 2], tops: [Top; 2], alternative: Option<(usize, usize)>) -> Vec<u8> {
+/// derived and settled both ways in every form, the first way for cash. An alternative leads from a place on the
+/// first side to one on the second.
+fn chains(forms: &[Form], lengths: [usize; 2], tops: [Top; 2], alternative: Option<(usize, usize)>) -> Vec<u8> {
     let mut scenario = Scenario::default();
     let security = scenario.security();
     let sides = lengths.map(|length| (0..length).map(|_| scenario.csd(IN_T2S)).collect::<Vec<u8>>());
@@ -65,7 +73,7 @@ fn chains(lengths: [usize; 2], tops: [Top; 2], alternative: Option<(usize, usize
             trades.push((accounts[1][lengths[1] - (steps - near)], accounts[0][lengths[0] - near]));
         }
     }
-    trade(&mut scenario, security, &trades);
+    trade(&mut scenario, forms, security, &trades);
     scenario.bytes
 }
 
@@ -85,12 +93,15 @@ fn enter_sides(scenario: &mut Scenario, security: u8, sides: &[Vec<u8>; 2], tops
     }
 }
 
-fn trade(scenario: &mut Scenario, security: u8, trades: &[(u16, u16)]) {
+fn trade(scenario: &mut Scenario, forms: &[Form], security: u8, trades: &[(u16, u16)]) {
     for (amount, &(from, to)) in (1..).zip(trades) {
         scenario.pay_in(to, 100).ok();
         for (from, to, amount) in [(from, to, amount), (to, from, 0)] {
-            scenario.derive(from, to, security, 1, amount).ok();
-            scenario.settle(from, to, security, 1, amount).ok();
+            let (delivering, receiving) = halves(scenario.directory(), from, to, security, 1, amount);
+            for form in forms {
+                scenario.send(form.derive(delivering, receiving)).ok();
+                scenario.send(form.settle(delivering, receiving)).ok();
+            }
         }
     }
 }

@@ -1,0 +1,98 @@
+-- 1280 and 2 by the tests; then what the settlement answers and leaves.
+use mathlib.Core.Path.{_≡_, sym, ap}
+use mathlib.Core.Bool.{false}
+use Prim.Native.Nat.{ℕ}
+use native.Mathlib.Omega.{arith}
+use lib.ListN.{take}
+use lib.Seq.{length-take-le}
+use Rattle.probe.specs.Exports.{fits}
+use Rattle.probe.proofs.Exported.{no-counts, no-rows, settle-cut, settled}
+use borrow.Author.Needs.{needs}
+use Rattle.probe.proofs.calls.settle.Statement.{statement}
+use Rattle.probe.proofs.calls.settle.Tie as tie
+
+returns : tie.Need-returns
+returns c =
+    let a = c .before .before .before .before .before .args in
+    let e : fits (a .counts .now) (a .rows .now) ≡ false = no-counts (a .counts .now) (a .rows .now) (λ x. omega arith) in
+    (rw e, rw e, rw e, rw e)
+
+returns-2 : tie.Need-returns-2
+returns-2 c =
+    let a = c .before .before .before .before .before .before .args in
+    let e : fits (a .counts .now) (a .rows .now) ≡ false = no-rows (a .counts .now) (a .rows .now) (λ x. omega arith) in
+    (rw e, rw e, rw e, rw e)
+
+width-requires : tie.Need-width-requires
+width-requires c κs = search needs
+
+code-of-requires : tie.Need-code-of-requires
+code-of-requires c κs = search needs
+
+returns-3 : tie.Need-returns-3
+returns-3 c =
+    let w = c .before .before in
+    let x = w .before in
+    let a = x .before .before .before .before .before .before .args in
+    settle-cut (a .counts .now) (a .rows .now) (omega (arith, x .before .if1 .left)) (omega (arith, x .if2 .left)) (a .tag) (a .bytes .now) (a .steps .now)
+    (omega (arith, c .before .if3 .taken, w .width .ensures)) (c .code-of .result) (c .code-of .ensures) (a .positions .now) (a .cash .now)
+
+read-directory-requires : tie.Need-read-directory-requires
+read-directory-requires c κs = search needs
+
+slice-aggregate-halves-in : tie.Need-slice-aggregate-halves-in
+slice-aggregate-halves-in c =
+    let w = c .before .before .before in
+    let a = w .before .before .before .before .before .before .before .args in
+    sym (length-take-le (w .width .result) (a .bytes .now) (omega (arith, c .before .before .if3 .left)))
+
+halves-in-requires : tie.Need-halves-in-requires
+halves-in-requires c κs = search needs
+
+settle-halves-requires : tie.Need-settle-halves-requires
+settle-halves-requires c κs = search needs
+
+replied-requires : tie.Need-replied-requires
+replied-requires c κs = search needs
+
+same-length : tie.Need-same-length
+same-length c = search needs
+
+same-length-2 : tie.Need-same-length-2
+same-length-2 c = search needs
+
+same-length-3 : tie.Need-same-length-3
+same-length-3 c = search needs
+
+returns-4 : tie.Need-returns-4
+returns-4 c =
+    let w = c .before .before .replied in
+    let r = c .before .before .before .before .before .before .settle-halves in
+    let h = c .before .before .before .before .before .before .before .before .before in
+    let n = h .before .before .before .before in
+    let x = n .before in
+    let s = x .before .before .before .before .before .before in
+    let a = s .args in
+    let d = h .before .before .read-directory in
+    settled (a .counts .now) (a .rows .now) (omega (arith, x .before .if1 .left)) (omega (arith, x .if2 .left)) (d .result) (d .ensures) (a .tag) (a .bytes .now) (a .steps .now)
+    (omega (arith, h .before .before .before .if3 .left, n .width .ensures)) _ (ap (λ (m : ℕ). take m (a .bytes .now)) (n .width .ensures)) (h .halves-in .result) (h .halves-in .ensures)
+    (r .result) (w .result) (w .last .0) (w .ensures) (s .pre) (a .positions .now) (a .cash .now) (r .last .1 .0) (r .last .1 .1 .0) (r .ensures)
+
+pub settle-spec : {M : Type 1} → statement M
+settle-spec =
+    tie.close
+    (tie.spec
+    returns
+    returns-2
+    width-requires
+    code-of-requires
+    returns-3
+    read-directory-requires
+    slice-aggregate-halves-in
+    halves-in-requires
+    settle-halves-requires
+    replied-requires
+    same-length
+    same-length-2
+    same-length-3
+    returns-4)
