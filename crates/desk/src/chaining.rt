@@ -303,13 +303,6 @@ pub fn settle_sided(
         × (now (cash .exit) ≡ settlementOn directory (now (positions .entry)) (now (cash .entry)) (now (steps .entry)) (Sided first second) .store .cash)
         × (now (steps .exit) ≡ settlementOn directory (now (positions .entry)) (now (cash .entry)) (now (steps .entry)) (Sided first second) .steps) ⌝ }
 {
-    let reply = settle_sided_reply(
-        directory,
-        positions,
-        cash,
-        steps.len(),
-        first,
-        second,
-    );
+    let reply = settle_sided_reply(directory, positions, cash, steps.len(), first, second);
     finish(steps, reply)
 }

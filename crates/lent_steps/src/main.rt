@@ -11,10 +11,12 @@ use rules::NO_CSD;
 use rules::POSITIONS;
 use rules::STEPS;
 use rules::Security;
+use rules::SidedHalf;
 use rules::Step;
 ghost use mathlib.Core.Path.{_≡_};
 ghost use Prim.Native.Nat.{_≤_};
 ghost use lib.ListN.{take, drop};
+ghost use Rattle.rules.specs.declared.Halves.the-variants.{Ordered, Sided};
 ghost use Rattle.rules.specs.Outcomes.{derivationOn, settlementOn};
 ghost use Rattle.lent_steps.specs.Lent.{size, left, backFrom};
 
@@ -44,7 +46,7 @@ fn derive(
     receiving: Half,
 ) -> Back
     requires { ⌜ lent ≤ size ⌝ }
-    ensures { λ r. ⌜ r ≡ backFrom (derivationOn directory (take lent list) delivering receiving) (drop lent list) ⌝ }
+    ensures { λ r. ⌜ r ≡ backFrom (derivationOn directory (take lent list) (Ordered delivering receiving)) (drop lent list) ⌝ }
 {
     let mut steps = list;
     let answer = desk::derive(directory, &mut steps[..lent], delivering, receiving);
@@ -62,10 +64,10 @@ fn settle(
     receiving: Half,
 ) -> Back
     requires { ⌜ lent ≤ size ⌝ }
-    ensures { λ r. ⌜ (r ≡ backFrom (settlementOn directory (now (positions .entry)) (now (cash .entry)) (take lent list) delivering receiving) (drop lent list))
+    ensures { λ r. ⌜ (r ≡ backFrom (settlementOn directory (now (positions .entry)) (now (cash .entry)) (take lent list) (Ordered delivering receiving)) (drop lent list))
         × (now (positions .exit)
-        ≡ settlementOn directory (now (positions .entry)) (now (cash .entry)) (take lent list) delivering receiving .store .positions)
-        × (now (cash .exit) ≡ settlementOn directory (now (positions .entry)) (now (cash .entry)) (take lent list) delivering receiving .store .cash) ⌝ }
+        ≡ settlementOn directory (now (positions .entry)) (now (cash .entry)) (take lent list) (Ordered delivering receiving) .store .positions)
+        × (now (cash .exit) ≡ settlementOn directory (now (positions .entry)) (now (cash .entry)) (take lent list) (Ordered delivering receiving) .store .cash) ⌝ }
 {
     let mut steps = list;
     let answer = desk::settle(
@@ -75,6 +77,48 @@ fn settle(
         &mut steps[..lent],
         delivering,
         receiving,
+    );
+    handed_back(answer, steps)
+}
+
+// The same with their sides.
+fn derive_sided(
+    directory: Directory,
+    list: [Step; LIST],
+    lent: usize,
+    first: SidedHalf,
+    second: SidedHalf,
+) -> Back
+    requires { ⌜ lent ≤ size ⌝ }
+    ensures { λ r. ⌜ r ≡ backFrom (derivationOn directory (take lent list) (Sided first second)) (drop lent list) ⌝ }
+{
+    let mut steps = list;
+    let answer = desk::derive_sided(directory, &mut steps[..lent], first, second);
+    handed_back(answer, steps)
+}
+
+fn settle_sided(
+    directory: Directory,
+    positions: &mut [i64],
+    cash: &mut [i64],
+    list: [Step; LIST],
+    lent: usize,
+    first: SidedHalf,
+    second: SidedHalf,
+) -> Back
+    requires { ⌜ lent ≤ size ⌝ }
+    ensures { λ r. ⌜ (r ≡ backFrom (settlementOn directory (now (positions .entry)) (now (cash .entry)) (take lent list) (Sided first second)) (drop lent list))
+        × (now (positions .exit) ≡ settlementOn directory (now (positions .entry)) (now (cash .entry)) (take lent list) (Sided first second) .store .positions)
+        × (now (cash .exit) ≡ settlementOn directory (now (positions .entry)) (now (cash .entry)) (take lent list) (Sided first second) .store .cash) ⌝ }
+{
+    let mut steps = list;
+    let answer = desk::settle_sided(
+        directory,
+        positions,
+        cash,
+        &mut steps[..lent],
+        first,
+        second,
     );
     handed_back(answer, steps)
 }
@@ -313,6 +357,41 @@ fn show_settle(
     ));
 }
 
+// A half of 40 units with its side.
+fn sided(side: u8, account: u16, counterpart: u16) -> SidedHalf {
+    let half = half(account, counterpart, 40);
+    SidedHalf { side, half }
+}
+
+// The side and account of each half, and how many steps are lent.
+fn put_sided_call(word: &[u8], lent: usize, first: SidedHalf, second: SidedHalf) {
+    put(word);
+    put_number(b"side ", first.side as u64);
+    put_number(b" of ", first.half.account as u64);
+    put_number(b", side ", second.side as u64);
+    put_number(b" of ", second.half.account as u64);
+    put_number(b", lent ", lent as u64);
+    put(b": ");
+}
+
+fn show_derive_sided(directory: Directory, lent: usize, first: SidedHalf, second: SidedHalf)
+    requires { ⌜ lent ≤ size ⌝ }
+{
+    put_sided_call(b"derive ", lent, first, second);
+    put_back(derive_sided(directory, others(), lent, first, second));
+}
+
+fn show_settle_sided(
+    directory: Directory,
+    positions: &mut [i64],
+    cash: &mut [i64],
+    first: SidedHalf,
+    second: SidedHalf,
+) {
+    put_sided_call(b"settle ", LIST, first, second);
+    put_back(settle_sided(directory, positions, cash, others(), LIST, first, second));
+}
+
 fn derivations(directory: Directory) {
     show_derive(directory, LIST, half(4, 5, 40), half(5, 4, 40));
     show_derive(directory, LIST, half(4, 0, 40), half(0, 4, 40));
@@ -325,6 +404,15 @@ fn derivations(directory: Directory) {
     show_derive(directory, 3, half(6, 0, 40), half(0, 6, 40));
 }
 
+// The halves of one delivery in both orders, with one side twice, and with a byte that is no side.
+fn sided_derivations(directory: Directory) {
+    show_derive_sided(directory, LIST, sided(0, 4, 0), sided(1, 0, 4));
+    show_derive_sided(directory, LIST, sided(1, 0, 4), sided(0, 4, 0));
+    show_derive_sided(directory, LIST, sided(0, 4, 0), sided(0, 0, 4));
+    show_derive_sided(directory, LIST, sided(2, 4, 0), sided(1, 0, 4));
+    show_derive_sided(directory, STEPS - 1, sided(0, 4, 0), sided(1, 0, 4));
+}
+
 fn settlements(directory: Directory, positions: &mut [i64], cash: &mut [i64]) {
     desk::bring_in(directory, positions, 4, 0, 100);
     show_settle(directory, positions, cash, LIST, 40);
@@ -332,10 +420,17 @@ fn settlements(directory: Directory, positions: &mut [i64], cash: &mut [i64]) {
     show_settle(directory, positions, cash, 3, 40);
 }
 
+fn sided_settlements(directory: Directory, positions: &mut [i64], cash: &mut [i64]) {
+    show_settle_sided(directory, positions, cash, sided(1, 0, 4), sided(0, 4, 0));
+    show_settle_sided(directory, positions, cash, sided(1, 0, 4), sided(1, 4, 0));
+}
+
 fn main() {
     let mut positions = [0i64; POSITIONS];
     let mut cash = [0i64; ACCOUNTS];
     let directory = wider();
     derivations(directory);
+    sided_derivations(directory);
     settlements(directory, &mut positions, &mut cash);
+    sided_settlements(directory, &mut positions, &mut cash);
 }
