@@ -11,12 +11,21 @@ use rules::Halves;
 use rules::LIMIT;
 use rules::PARTICIPANT;
 use rules::RECEIVING;
+use rules::SidedHalf;
 ghost use mathlib.Core.Path.{_≡_};
+ghost use lib.Dec.{eqb};
 ghost use Rattle.rules.specs.Tests.{firstOf};
-ghost use Rattle.rules.specs.Calls.{delivering, receiving, sideUnknown, sameSide, halfUnknown, halfOutOfRange, halvesDiffer, bothConditions, halvesConditions};
+ghost use Rattle.rules.specs.Calls.{deliveringSide, delivering, receiving, sideUnknown, sameSide, halfUnknown, halfOutOfRange, halvesDiffer, bothConditions, halvesConditions};
 ghost use Rattle.index.specs.Asked.{asked};
 
 // ---- the sides
+
+// Whether the first of two halves with their sides delivers.
+fn first_delivers(first: SidedHalf) -> bool
+    ensures { λ r. ⌜ r ≡ eqb (first .side) deliveringSide ⌝ }
+{
+    first.side == DELIVERING
+}
 
 // The half that delivers: the first, or where sides are written out, the one of this side.
 pub fn delivering(halves: Halves) -> Half
@@ -25,7 +34,7 @@ pub fn delivering(halves: Halves) -> Half
     match halves {
         Halves::Ordered(first, _) => first,
         Halves::Sided(first, second) => {
-            if first.side == DELIVERING {
+            if first_delivers(first) {
                 first.half
             } else {
                 second.half
@@ -41,7 +50,7 @@ pub fn receiving(halves: Halves) -> Half
     match halves {
         Halves::Ordered(_, second) => second,
         Halves::Sided(first, second) => {
-            if first.side == DELIVERING {
+            if first_delivers(first) {
                 second.half
             } else {
                 first.half
