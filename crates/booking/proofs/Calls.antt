@@ -2,14 +2,13 @@
 use Prim.Native.Nat.{ℕ, zero, suc}
 use mathlib.Core.Path.{_≡_, refl}
 use mathlib.Core.List.{List, []}
-use Rattle.rules.specs.declared.Halves.{Halves}
 use Rattle.rules.specs.declared.Step.{Step}
 use Rattle.rules.specs.Tests.{firstOf}
 use Rattle.rules.specs.Directory.{rowsOf}
 use Rattle.rules.specs.Lookups.{Lookups, ask}
 use Rattle.rules.specs.Chain.{stepsOf}
 use Rattle.rules.specs.Booking.{Way, moveChain, moveConditions, payment, payConditions, booked, addCents}
-use Rattle.rules.specs.Calls.{Store, Outcome, move, pay, settle, outcome, core, halvesChain, settleConditions, written}
+use Rattle.rules.specs.Calls.{Halves, Store, Outcome, move, pay, settle, outcome, core, delivering, receiving, sideUnknown, sameSide, halvesChain, settleConditions, written}
 use Rattle.booking.specs.Moves.{MoveOutcome, moveOutcomeBy, moveOutcome}
 use Rattle.booking.specs.Payments.{PayOutcome, payOutcomeBy, payOutcome}
 use Rattle.booking.specs.Settling.{SettleOutcome, settleOutcomeBy, settleOutcome}
@@ -51,10 +50,14 @@ module _ (st : Store) where
       go zero = refl
       go (suc n) = refl
 
-  pub core-settles : (hs : Halves) (lent : List Step) → core (settle hs lent) st ≡ settledOn st lent (settleOutcome rows (st .positions) (st .cash) hs)
+  -- the settlement of two halves as they are given
+  abbrev pub ofHalves : Lookups → Halves → SettleOutcome
+  ofHalves k hs = settleOutcome k (st .positions) (st .cash) (delivering hs) (receiving hs) (sideUnknown hs) (sameSide hs)
+
+  pub core-settles : (hs : Halves) (lent : List Step) → core (settle hs lent) st ≡ settledOn st lent (ofHalves rows hs)
   unfolding core settleOutcome
   core-settles hs lent = go (firstOf (settleConditions rows (st .positions) (st .cash) hs))
     where
-      go : (n : ℕ) → outcome n (settle hs lent) st ≡ settledOn st lent (settleOutcomeBy n (st .positions) (st .cash) hs (stepsOf (halvesChain rows hs)))
+      go : (n : ℕ) → outcome n (settle hs lent) st ≡ settledOn st lent (settleOutcomeBy n (st .positions) (st .cash) (delivering hs) (receiving hs) (stepsOf (halvesChain rows hs)))
       go zero = refl
       go (suc n) = refl

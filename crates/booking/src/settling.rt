@@ -6,15 +6,12 @@ use crate::judging::judge_steps;
 use crate::positions::move_units;
 use crate::refusals::book_refusal;
 use chain::derivation::chain_of;
-use chain::halves::delivering;
 use chain::halves::halves_refusal;
-use chain::halves::receiving;
 use chain::step_list::STEP_NUMBERS;
 use chain::step_list::step_at;
 use index::places::INDEX;
 use rules::Answer;
 use rules::Half;
-use rules::Halves;
 ghost use mathlib.Core.Path.{_≡_};
 ghost use mathlib.Core.Bool.{false};
 ghost use Prim.Native.Nat.{_≤_};
@@ -67,38 +64,52 @@ fn judge_booking(
     book_refusal(units.short, unpaid, units.beyond | payment)
 }
 
-// 6 to 13 of the halves, 14 to 18 of their chain, 20 to 22 of its booking; then it is booked and paid for. A step list of another length is refused 3.
+// 6 to 13 of the halves and their sides, 14 to 18 of their chain, 20 to 22 of its booking; then it is booked and paid for. A step list of another length is
+// refused 3.
 pub fn settle(
     index: &[u16; INDEX],
     positions: &mut [i64],
     cash: &mut [i64],
     steps: &mut [u16],
-    halves: Halves,
+    delivering: Half,
+    receiving: Half,
+    unknown: bool,
+    same: bool,
 ) -> Answer
     ensures { λ r. ⌜ Settles (now (steps .entry)) (now (steps .exit)) (asked (now (index .entry))) (now (positions .entry)) (now (cash .entry))
-        halves r (now (positions .exit)) (now (cash .exit)) ⌝ }
+        delivering receiving unknown same r (now (positions .exit)) (now (cash .exit)) ⌝ }
 {
     if steps.len() != STEP_NUMBERS {
         return Answer::Refused(3);
     }
-    let refusal = halves_refusal(index, halves);
-    if refusal != 0 {
-        return Answer::Refused(refusal);
+    let halves = halves_refusal(index, delivering, receiving, unknown, same);
+    if halves != 0 {
+        return Answer::Refused(halves);
     }
-    let from = delivering(halves);
-    let to = receiving(halves);
-    let found = chain_of(index, from.security, from.account, to.account, steps);
+    let found = chain_of(
+        index,
+        delivering.security,
+        delivering.account,
+        receiving.account,
+        steps,
+    );
     if found.refusal != 0 {
         return Answer::Refused(found.refusal);
     }
     let count = found.count;
-    let booking = judge_booking(index, positions, cash, from, to, steps, count);
+    let booking = judge_booking(index, positions, cash, delivering, receiving, steps, count);
     if booking != 0 {
         return Answer::Refused(booking);
     }
-    let payer = to.account;
-    let payee = from.account;
-    book_steps(positions, from.security, from.quantity, steps, count);
-    pay(cash, payer, payee, from.amount);
+    let payer = receiving.account;
+    let payee = delivering.account;
+    book_steps(
+        positions,
+        delivering.security,
+        delivering.quantity,
+        steps,
+        count,
+    );
+    pay(cash, payer, payee, delivering.amount);
     Answer::Booked(count)
 }

@@ -1,18 +1,18 @@
 -- The chain between two accounts and the derivation for two halves, with the list lent for their steps. Assumes nothing.
 use Prim.Native.Nat.{ℕ, zero, suc}
 use mathlib.Core.Path.{_≡_}
-use mathlib.Core.Bool.{cond}
-use mathlib.Core.List.{List, []}
+use mathlib.Core.Bool.{Bool, cond}
+use mathlib.Core.List.{List, [], _++_}
 use lib.Dec.{eqb}
 use lib.ListN.{length}
-use Rattle.rules.specs.declared.Halves.{Halves}
+use Rattle.rules.specs.declared.Half.{Half}
 use Rattle.rules.specs.declared.Step.{Step}
 use Rattle.rules.specs.declared.Answer.{Answer}
 use Rattle.rules.specs.declared.Answer.the-variants.{Chained, Refused}
-use Rattle.rules.specs.Tests.{firstOf}
+use Rattle.rules.specs.Tests.{Condition, firstOf}
 use Rattle.rules.specs.Lookups.{Lookups}
-use Rattle.rules.specs.Chain.{Chain, unchained, chain, stepsOf}
-use Rattle.rules.specs.Calls.{countOf, deriveConditions, halvesChain}
+use Rattle.rules.specs.Chain.{Chain, unchained, chain, stepsOf, chainConditions}
+use Rattle.rules.specs.Calls.{Halves, delivering, receiving, sideUnknown, sameSide, countOf, bothConditions}
 use Rattle.chain.specs.StepList.{stepNumbers, stepsIn, noted}
 use Rattle.chain.specs.Steps.{FoundIn}
 use Rattle.chain.specs.declared.steps.Found.{Found}
@@ -35,13 +35,21 @@ abbrev pub derivedBy : ℕ → List Step → Derived
 derivedBy zero xs = record { answer = Chained (length xs); steps = xs }
 derivedBy (suc n) xs = record { answer = Refused (suc n); steps = [] }
 
--- the derivation for two halves
-unfoldable pub derived : Lookups → Halves → Derived
-derived k hs = derivedBy (firstOf (deriveConditions k hs)) (stepsOf (halvesChain k hs))
+-- the chain from the half h to the half g
+abbrev pub chainBetween : Lookups → Half → Half → Chain
+chainBetween k h g = chain k (h .security) (h .account) (g .account)
+
+-- the conditions of the derivation for the halves h, which delivers, and g, which receives, and what is asked of their sides
+abbrev pub pairConditions : Lookups → Half → Half → Bool → Bool → List Condition
+pairConditions k h g unknown same = bothConditions k h g unknown same ++ chainConditions (chainBetween k h g)
+
+-- that derivation
+unfoldable pub derived : Lookups → Half → Half → Bool → Bool → Derived
+derived k h g unknown same = derivedBy (firstOf (pairConditions k h g unknown same)) (stepsOf (chainBetween k h g))
 
 -- the same into the lent list l; 3 where the list has another length
-unfoldable pub derivedInto : List ℕ → Lookups → Halves → Derived
-derivedInto l k hs = cond (eqb (length l) stepNumbers) (derived k hs) (derivedBy 3 [])
+unfoldable pub derivedInto : List ℕ → Lookups → Half → Half → Bool → Bool → Derived
+derivedInto l k h g unknown same = cond (eqb (length l) stepNumbers) (derived k h g unknown same) (derivedBy 3 [])
 
 -- The list l was lent for the derivation x, and is left as m: the answer and the steps that it then holds are the derivation's, and the rest is untouched.
 pub record DerivedIn (l m : List ℕ) (x : Derived) (r : Answer) : Type 0 where
@@ -50,5 +58,16 @@ pub record DerivedIn (l m : List ℕ) (x : Derived) (r : Answer) : Type 0 where
   pub list : m ≡ noted (x .steps) l
 
 -- what a function that derives promises
-abbrev pub Derives : List ℕ → List ℕ → Lookups → Halves → Answer → Type 0
-Derives l m k hs r = DerivedIn l m (derivedInto l k hs) r
+abbrev pub Derives : List ℕ → List ℕ → Lookups → Half → Half → Bool → Bool → Answer → Type 0
+Derives l m k h g unknown same r = DerivedIn l m (derivedInto l k h g unknown same) r
+
+-- What a function that derives or settles is handed of two halves: the half h, which delivers, g, which receives, and what is asked of their sides.
+pub record Handed (hs : Halves) (h g : Half) (unknown same : Bool) : Type 0 where
+  pub delivers : delivering hs ≡ h
+  pub receives : receiving hs ≡ g
+  pub unknownSide : sideUnknown hs ≡ unknown
+  pub oneSide : sameSide hs ≡ same
+
+-- it is handed two halves
+abbrev pub Halved : Half → Half → Bool → Bool → Type 0
+Halved h g unknown same = (hs : Halves) × Handed hs h g unknown same

@@ -1,14 +1,12 @@
 // The chain between two accounts, and the derivation for two halves.
-use crate::halves::delivering;
 use crate::halves::halves_refusal;
-use crate::halves::receiving;
 use crate::step_list::STEP_NUMBERS;
 use crate::steps::Found;
 use crate::steps::steps_along;
 use index::lookups::home_of;
 use index::places::INDEX;
 use rules::Answer;
-use rules::Halves;
+use rules::Half;
 use walks::routes::route_of;
 ghost use Rattle.index.specs.Asked.{asked};
 ghost use Rattle.chain.specs.Derivation.{Finds, Derives};
@@ -35,20 +33,31 @@ pub fn chain_of(
     steps_along(index, security, delivering, receiving, route, steps)
 }
 
-// 3, then 6, 7, 10, 23, 12, 13, then the chain.
-pub fn derive(index: &[u16; INDEX], steps: &mut [u16], halves: Halves) -> Answer
-    ensures { λ r. ⌜ Derives (now (steps .entry)) (now (steps .exit)) (asked (now (index .entry))) halves r ⌝ }
+// 3, then 6, 7, 10, 23, 12, 13, then the chain. What is asked of the sides comes last.
+pub fn derive(
+    index: &[u16; INDEX],
+    steps: &mut [u16],
+    delivering: Half,
+    receiving: Half,
+    unknown: bool,
+    same: bool,
+) -> Answer
+    ensures { λ r. ⌜ Derives (now (steps .entry)) (now (steps .exit)) (asked (now (index .entry))) delivering receiving unknown same r ⌝ }
 {
     if steps.len() != STEP_NUMBERS {
         return Answer::Refused(3);
     }
-    let refusal = halves_refusal(index, halves);
+    let refusal = halves_refusal(index, delivering, receiving, unknown, same);
     if refusal != 0 {
         return Answer::Refused(refusal);
     }
-    let from = delivering(halves);
-    let to = receiving(halves);
-    let found = chain_of(index, from.security, from.account, to.account, steps);
+    let found = chain_of(
+        index,
+        delivering.security,
+        delivering.account,
+        receiving.account,
+        steps,
+    );
     if found.refusal != 0 {
         return Answer::Refused(found.refusal);
     }

@@ -7,7 +7,6 @@ use index::lookups::is_security;
 use index::places::INDEX;
 use rules::DELIVERING;
 use rules::Half;
-use rules::Halves;
 use rules::LIMIT;
 use rules::PARTICIPANT;
 use rules::RECEIVING;
@@ -15,68 +14,52 @@ use rules::SidedHalf;
 ghost use mathlib.Core.Path.{_≡_};
 ghost use lib.Dec.{eqb};
 ghost use Rattle.rules.specs.Tests.{firstOf};
-ghost use Rattle.rules.specs.Calls.{deliveringSide, delivering, receiving, sideUnknown, sameSide, halfUnknown, halfOutOfRange, halvesDiffer, bothConditions, halvesConditions};
+ghost use Rattle.rules.specs.Calls.{deliveringSide, delivering, receiving, sideUnknown, sameSide, halfUnknown, halfOutOfRange, halvesDiffer, bothConditions, sided};
 ghost use Rattle.index.specs.Asked.{asked};
 
-// ---- the sides
+// ---- two halves with their sides
 
-// Whether the first of two halves with their sides delivers.
+// Whether the first of them delivers.
 fn first_delivers(first: SidedHalf) -> bool
     ensures { λ r. ⌜ r ≡ eqb (first .side) deliveringSide ⌝ }
 {
     first.side == DELIVERING
 }
 
-// The half that delivers: the first, or where sides are written out, the one of this side.
-pub fn delivering(halves: Halves) -> Half
-    ensures { λ r. ⌜ r ≡ delivering halves ⌝ }
+// The half that delivers.
+pub fn delivering(first: SidedHalf, second: SidedHalf) -> Half
+    ensures { λ r. ⌜ r ≡ delivering (sided first second) ⌝ }
 {
-    match halves {
-        Halves::Ordered(first, _) => first,
-        Halves::Sided(first, second) => {
-            if first_delivers(first) {
-                first.half
-            } else {
-                second.half
-            }
-        }
+    if first_delivers(first) {
+        first.half
+    } else {
+        second.half
     }
 }
 
 // The other one.
-pub fn receiving(halves: Halves) -> Half
-    ensures { λ r. ⌜ r ≡ receiving halves ⌝ }
+pub fn receiving(first: SidedHalf, second: SidedHalf) -> Half
+    ensures { λ r. ⌜ r ≡ receiving (sided first second) ⌝ }
 {
-    match halves {
-        Halves::Ordered(_, second) => second,
-        Halves::Sided(first, second) => {
-            if first_delivers(first) {
-                second.half
-            } else {
-                first.half
-            }
-        }
+    if first_delivers(first) {
+        second.half
+    } else {
+        first.half
     }
 }
 
 // Whether a side byte is none of the two.
-fn side_unknown(halves: Halves) -> bool
-    ensures { λ r. ⌜ r ≡ sideUnknown halves ⌝ }
+pub fn side_unknown(first: SidedHalf, second: SidedHalf) -> bool
+    ensures { λ r. ⌜ r ≡ sideUnknown (sided first second) ⌝ }
 {
-    match halves {
-        Halves::Ordered(_, _) => false,
-        Halves::Sided(first, second) => (RECEIVING < first.side) | (RECEIVING < second.side),
-    }
+    (RECEIVING < first.side) | (RECEIVING < second.side)
 }
 
 // Whether both halves are of one side.
-fn same_side(halves: Halves) -> bool
-    ensures { λ r. ⌜ r ≡ sameSide halves ⌝ }
+pub fn same_side(first: SidedHalf, second: SidedHalf) -> bool
+    ensures { λ r. ⌜ r ≡ sameSide (sided first second) ⌝ }
 {
-    match halves {
-        Halves::Ordered(_, _) => false,
-        Halves::Sided(first, second) => first.side == second.side,
-    }
+    first.side == second.side
 }
 
 // ---- the refusals
@@ -109,8 +92,8 @@ fn halves_differ(index: &[u16; INDEX], delivering: Half, receiving: Half) -> boo
             | ((delivering.amount != receiving.amount) | (!to | !from)))
 }
 
-// 6, 7, 10, 23, 12 and 13, each over both halves; 0 where none applies. The last two are what is asked of their sides.
-fn both_refusal(
+// 6, 7, 10, 23, 12 and 13, each over both halves; 0 where none applies. What is asked of their sides comes last.
+pub fn halves_refusal(
     index: &[u16; INDEX],
     delivering: Half,
     receiving: Half,
@@ -140,13 +123,4 @@ fn both_refusal(
         return 13;
     }
     0
-}
-
-// The same of two halves as they are given.
-pub fn halves_refusal(index: &[u16; INDEX], halves: Halves) -> u8
-    ensures { λ r. ⌜ r ≡ firstOf (halvesConditions (asked (now (index .entry))) halves) ⌝ }
-{
-    let from = delivering(halves);
-    let to = receiving(halves);
-    both_refusal(index, from, to, side_unknown(halves), same_side(halves))
 }

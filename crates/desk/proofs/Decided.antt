@@ -16,7 +16,6 @@ use Rattle.rules.specs.declared.SecurityTotal.the-variants.{NoUnits}
 use Rattle.rules.specs.declared.CashTotal.the-variants.{NoCents}
 use Rattle.rules.specs.declared.Units.{Units}
 use Rattle.rules.specs.declared.Directory.{Directory}
-use Rattle.rules.specs.declared.Halves.{Halves}
 use Rattle.rules.specs.declared.Step.{Step}
 use Rattle.rules.specs.declared.Reply.{Reply}
 use Rattle.rules.specs.Directory.{rowsOf}
@@ -24,7 +23,7 @@ use Rattle.rules.specs.Entries.{sound}
 use Rattle.rules.specs.Lookups.{Lookups, ask}
 use Rattle.rules.specs.Chain.{step, stepLimit}
 use Rattle.rules.specs.Booking.{Way, positionCount, cashCount, participantSum, securityTotalBy, securityTotalConditions}
-use Rattle.rules.specs.Calls.{Store, Call, Outcome, move, pay, settle, derive, misfit, core, countOf, written, deskSecurityTotal, deskCashTotal}
+use Rattle.rules.specs.Calls.{Halves, delivering, receiving, sideUnknown, sameSide, Store, Call, Outcome, move, pay, settle, derive, misfit, core, countOf, written, deskSecurityTotal, deskCashTotal}
 use Rattle.rules.proofs.Basics.{eqb-true, eqb-false}
 use Rattle.index.specs.Asked.{asked}
 use Rattle.index.proofs.Answers.{answers}
@@ -170,10 +169,10 @@ module _ (d : Directory) (lent : ℕ) (hs : Halves) (n : ℕ) (k : Kept) (e : Ad
   pub derivation-refused : n ≢ 0 → refusal n ≡ replyOf (derivationOn d (blanks lent) hs)
   derivation-refused ne = refusal-replied (derivationOn d (blanks lent) hs) n (ap answerOf (early-refused called handed n derive-early ne))
 
-  module _ (z : n ≡ 0) (r : Answer) (m : List ℕ) (o : Derives blankNumbers m (asked (k .numbers)) hs r) where
-    the-core : outcomeOf handed (blanks lent) (derivedInto blankNumbers (asked (k .numbers)) hs) ≡ core called handed
+  module _ (z : n ≡ 0) (r : Answer) (m : List ℕ) (o : Derives blankNumbers m (asked (k .numbers)) (delivering hs) (receiving hs) (sideUnknown hs) (sameSide hs) r) where
+    the-core : outcomeOf handed (blanks lent) (derivedInto blankNumbers (asked (k .numbers)) (delivering hs) (receiving hs) (sideUnknown hs) (sameSide hs)) ≡ core called handed
     the-core =
-        ap (outcomeOf handed (blanks lent)) (derived-fits blankNumbers (asked (k .numbers)) hs size ∙ ap (λ (l : Lookups). derived l hs) (same d k (e .keeps z)))
+        ap (outcomeOf handed (blanks lent)) (derived-fits blankNumbers (asked (k .numbers)) (delivering hs) (receiving hs) (sideUnknown hs) (sameSide hs) size ∙ ap (λ (l : Lookups). derived l (delivering hs) (receiving hs) (sideUnknown hs) (sameSide hs)) (same d k (e .keeps z)))
         ∙ sym (core-derives handed hs (blanks lent))
 
     answered : r ≡ core called handed .answer
@@ -208,11 +207,11 @@ module _ (d : Directory) (p c : List ℤ) (lent : ℕ) (hs : Halves) (n : ℕ) (
       let o = early-refused settled (holding d p c) n settle-early ne in
       (refusal-replied (settlementOn d p c (blanks lent) hs) n (ap answerOf o), sym (ap positionsOf o), sym (ap cashOf o))
 
-  module _ (z : n ≡ 0) (r : Answer) (left cash : List ℤ) (m : List ℕ) (o : Settles blankNumbers m (asked (k .numbers)) p c hs r left cash) where
-    the-booking : settledOn (holding d p c) (blanks lent) (settleInto blankNumbers (asked (k .numbers)) p c hs) ≡ core settled (holding d p c)
+  module _ (z : n ≡ 0) (r : Answer) (left cash : List ℤ) (m : List ℕ) (o : Settles blankNumbers m (asked (k .numbers)) p c (delivering hs) (receiving hs) (sideUnknown hs) (sameSide hs) r left cash) where
+    the-booking : settledOn (holding d p c) (blanks lent) (settleInto blankNumbers (asked (k .numbers)) p c (delivering hs) (receiving hs) (sideUnknown hs) (sameSide hs)) ≡ core settled (holding d p c)
     the-booking =
         ap (settledOn (holding d p c) (blanks lent))
-        (settle-fits blankNumbers (asked (k .numbers)) p c hs size ∙ ap (λ (l : Lookups). settleOutcome l p c hs) (same d k (e .keeps z)))
+        (settle-fits blankNumbers (asked (k .numbers)) p c (delivering hs) (receiving hs) (sideUnknown hs) (sameSide hs) size ∙ ap (λ (l : Lookups). settleOutcome l p c (delivering hs) (receiving hs) (sideUnknown hs) (sameSide hs)) (same d k (e .keeps z)))
         ∙ sym (core-settles (holding d p c) hs (blanks lent))
 
     booked : r ≡ core settled (holding d p c) .answer

@@ -10,7 +10,6 @@ use lib.Seq.{take-append-seam}
 use lib.Dec.{ltb, eqb}
 use native.Mathlib.Omega.{arith}
 use Rattle.rules.specs.declared.Directory.{Directory}
-use Rattle.rules.specs.declared.Halves.{Halves}
 use Rattle.rules.specs.declared.Step.{Step}
 use Rattle.rules.specs.declared.Answer.{Answer}
 use Rattle.rules.specs.declared.Reply.{Reply}
@@ -19,7 +18,7 @@ use Rattle.rules.specs.Directory.{rowsOf}
 use Rattle.rules.specs.Lookups.{ask}
 use Rattle.rules.specs.Chain.{Chain, chained, unchained, stepsOf, stepLimit, step}
 use Rattle.rules.specs.Booking.{positionCount, cashCount}
-use Rattle.rules.specs.Calls.{Store, Call, settle, derive, Outcome, outcome, core, coreConditions, desk, misfit, deskConditions, delivering, receiving, halvesChain, written, countOf}
+use Rattle.rules.specs.Calls.{Halves, Store, Call, settle, derive, Outcome, outcome, core, coreConditions, desk, misfit, deskConditions, delivering, receiving, halvesChain, written, countOf}
 use Rattle.rules.proofs.Basics.{or-none, ltb-not}
 use Rattle.rules.proofs.ChainSize.{chain-few}
 use Rattle.rules.specs.Outcomes.{holding, settlementOn, derivationOn, blanks, byValue, replyOf, stepRows}

@@ -2,6 +2,7 @@
 use crate::early_refusal;
 use booking::settling;
 use chain::derivation;
+use chain::halves;
 use chain::step_list::STEP_NUMBERS;
 use chain::step_list::count_of;
 use chain::step_list::step_at;
@@ -11,7 +12,6 @@ use rules::ACCOUNTS;
 use rules::Answer;
 use rules::Directory;
 use rules::Half;
-use rules::Halves;
 use rules::POSITIONS;
 use rules::Reply;
 use rules::STEPS;
@@ -19,13 +19,13 @@ use rules::SidedHalf;
 use rules::Step;
 use rules::Steps;
 ghost use mathlib.Core.Path.{_≡_};
-ghost use Rattle.rules.specs.declared.Halves.the-variants.{Ordered, Sided};
 ghost use Rattle.rules.specs.Chain.{stepLimit, step};
 ghost use Rattle.rules.specs.Outcomes.{settlementOn, derivationOn, blanks, replyOf, byValue, stepRows};
 ghost use Prim.Native.Nat.{_≤_, _<_};
 ghost use lib.ListN.{length, getD};
-ghost use Rattle.rules.specs.Calls.{countOf, written};
+ghost use Rattle.rules.specs.Calls.{Halves, ordered, sided, countOf, written};
 ghost use Rattle.chain.specs.StepList.{stepsIn};
+ghost use Rattle.chain.specs.Derivation.{Handed, Halved};
 ghost use Rattle.desk.specs.Replies.{refusal};
 
 // ---- by value
@@ -110,9 +110,17 @@ fn finish(steps: &mut [Step], reply: Reply) -> Answer
 
 // ---- the calls, their steps by value
 
-// The chain of two halves, for a caller that is lent `lent` steps.
-pub fn derive_halves(directory: Directory, lent: usize, halves: Halves) -> Reply
-    ensures { λ r. ⌜ r ≡ replyOf (derivationOn directory (blanks lent) halves) ⌝ }
+// The chain of two halves, for a caller that is lent `lent` steps. What is asked of the sides comes last.
+fn derived(
+    directory: Directory,
+    lent: usize,
+    delivering: Half,
+    receiving: Half,
+    unknown: bool,
+    same: bool,
+) -> Reply
+    requires { ⌜ Halved delivering receiving unknown same ⌝ }
+    ensures { λ r. ⌜ ((hs : Halves) → Handed hs delivering receiving unknown same → r ≡ replyOf (derivationOn directory (blanks lent) hs)) ⌝ }
 {
     let mut index: [u16; INDEX] = [0; INDEX];
     let mut names: [u8; NAMES] = [0; NAMES];
@@ -121,21 +129,26 @@ pub fn derive_halves(directory: Directory, lent: usize, halves: Halves) -> Reply
         return refused(number);
     }
     let mut numbers: [u16; STEP_NUMBERS] = [0; STEP_NUMBERS];
-    let answer = derivation::derive(&index, &mut numbers, halves);
+    let answer = derivation::derive(&index, &mut numbers, delivering, receiving, unknown, same);
     replied(answer, &numbers)
 }
 
 // Two halves booked, likewise.
-pub fn settle_halves(
+fn settled(
     directory: Directory,
     positions: &mut [i64],
     cash: &mut [i64],
     lent: usize,
-    halves: Halves,
+    delivering: Half,
+    receiving: Half,
+    unknown: bool,
+    same: bool,
 ) -> Reply
-    ensures { λ r. ⌜ (r ≡ replyOf (settlementOn directory (now (positions .entry)) (now (cash .entry)) (blanks lent) halves))
-        × (now (positions .exit) ≡ settlementOn directory (now (positions .entry)) (now (cash .entry)) (blanks lent) halves .store .positions)
-        × (now (cash .exit) ≡ settlementOn directory (now (positions .entry)) (now (cash .entry)) (blanks lent) halves .store .cash) ⌝ }
+    requires { ⌜ Halved delivering receiving unknown same ⌝ }
+    ensures { λ r. ⌜ ((hs : Halves) → Handed hs delivering receiving unknown same
+        → (r ≡ replyOf (settlementOn directory (now (positions .entry)) (now (cash .entry)) (blanks lent) hs))
+        × (now (positions .exit) ≡ settlementOn directory (now (positions .entry)) (now (cash .entry)) (blanks lent) hs .store .positions)
+        × (now (cash .exit) ≡ settlementOn directory (now (positions .entry)) (now (cash .entry)) (blanks lent) hs .store .cash)) ⌝ }
 {
     let mut index: [u16; INDEX] = [0; INDEX];
     let mut names: [u8; NAMES] = [0; NAMES];
@@ -145,30 +158,43 @@ pub fn settle_halves(
         return refused(number);
     }
     let mut numbers: [u16; STEP_NUMBERS] = [0; STEP_NUMBERS];
-    let answer = settling::settle(&index, positions, cash, &mut numbers, halves);
+    let answer = settling::settle(
+        &index,
+        positions,
+        cash,
+        &mut numbers,
+        delivering,
+        receiving,
+        unknown,
+        same,
+    );
     replied(answer, &numbers)
 }
 
-// The same of two halves that are given one by one, delivering first.
+// The chain of two halves, delivering first, for a caller that is lent `lent` steps.
 pub fn derive_reply(directory: Directory, lent: usize, delivering: Half, receiving: Half) -> Reply
-    ensures { λ r. ⌜ r ≡ replyOf (derivationOn directory (blanks lent) (Ordered delivering receiving)) ⌝ }
+    ensures { λ r. ⌜ r ≡ replyOf (derivationOn directory (blanks lent) (ordered delivering receiving)) ⌝ }
 {
-    derive_halves(directory, lent, Halves::Ordered(delivering, receiving))
+    derived(directory, lent, delivering, receiving, false, false)
 }
 
-// With their sides, in either order.
-fn derive_sided_reply(
+// The same of two halves with their sides, in either order.
+pub fn derive_sided_reply(
     directory: Directory,
     lent: usize,
     first: SidedHalf,
     second: SidedHalf,
 ) -> Reply
-    ensures { λ r. ⌜ r ≡ replyOf (derivationOn directory (blanks lent) (Sided first second)) ⌝ }
+    ensures { λ r. ⌜ r ≡ replyOf (derivationOn directory (blanks lent) (sided first second)) ⌝ }
 {
-    derive_halves(directory, lent, Halves::Sided(first, second))
+    let from = halves::delivering(first, second);
+    let to = halves::receiving(first, second);
+    let unknown = halves::side_unknown(first, second);
+    let same = halves::same_side(first, second);
+    derived(directory, lent, from, to, unknown, same)
 }
 
-// Two halves booked, delivering first.
+// Two halves booked, delivering first, for a caller that is lent `lent` steps.
 pub fn settle_reply(
     directory: Directory,
     positions: &mut [i64],
@@ -177,22 +203,25 @@ pub fn settle_reply(
     delivering: Half,
     receiving: Half,
 ) -> Reply
-    ensures { λ r. ⌜ (r ≡ replyOf (settlementOn directory (now (positions .entry)) (now (cash .entry)) (blanks lent) (Ordered delivering receiving)))
+    ensures { λ r. ⌜ (r ≡ replyOf (settlementOn directory (now (positions .entry)) (now (cash .entry)) (blanks lent) (ordered delivering receiving)))
         × (now (positions .exit)
-        ≡ settlementOn directory (now (positions .entry)) (now (cash .entry)) (blanks lent) (Ordered delivering receiving) .store .positions)
-        × (now (cash .exit) ≡ settlementOn directory (now (positions .entry)) (now (cash .entry)) (blanks lent) (Ordered delivering receiving) .store .cash) ⌝ }
+        ≡ settlementOn directory (now (positions .entry)) (now (cash .entry)) (blanks lent) (ordered delivering receiving) .store .positions)
+        × (now (cash .exit) ≡ settlementOn directory (now (positions .entry)) (now (cash .entry)) (blanks lent) (ordered delivering receiving) .store .cash) ⌝ }
 {
-    settle_halves(
+    settled(
         directory,
         positions,
         cash,
         lent,
-        Halves::Ordered(delivering, receiving),
+        delivering,
+        receiving,
+        false,
+        false,
     )
 }
 
-// With their sides, in either order.
-fn settle_sided_reply(
+// The same of two halves with their sides, in either order.
+pub fn settle_sided_reply(
     directory: Directory,
     positions: &mut [i64],
     cash: &mut [i64],
@@ -200,22 +229,20 @@ fn settle_sided_reply(
     first: SidedHalf,
     second: SidedHalf,
 ) -> Reply
-    ensures { λ r. ⌜ (r ≡ replyOf (settlementOn directory (now (positions .entry)) (now (cash .entry)) (blanks lent) (Sided first second)))
-        × (now (positions .exit) ≡ settlementOn directory (now (positions .entry)) (now (cash .entry)) (blanks lent) (Sided first second) .store .positions)
-        × (now (cash .exit) ≡ settlementOn directory (now (positions .entry)) (now (cash .entry)) (blanks lent) (Sided first second) .store .cash) ⌝ }
+    ensures { λ r. ⌜ (r ≡ replyOf (settlementOn directory (now (positions .entry)) (now (cash .entry)) (blanks lent) (sided first second)))
+        × (now (positions .exit) ≡ settlementOn directory (now (positions .entry)) (now (cash .entry)) (blanks lent) (sided first second) .store .positions)
+        × (now (cash .exit) ≡ settlementOn directory (now (positions .entry)) (now (cash .entry)) (blanks lent) (sided first second) .store .cash) ⌝ }
 {
-    settle_halves(
-        directory,
-        positions,
-        cash,
-        lent,
-        Halves::Sided(first, second),
-    )
+    let from = halves::delivering(first, second);
+    let to = halves::receiving(first, second);
+    let unknown = halves::side_unknown(first, second);
+    let same = halves::same_side(first, second);
+    settled(directory, positions, cash, lent, from, to, unknown, same)
 }
 
 // The chain of two halves, delivering first, with its steps by value: what a lent list of 16 blank steps would hold.
 pub fn derive_by_value(directory: Directory, delivering: Half, receiving: Half) -> Reply
-    ensures { λ r. ⌜ r ≡ replyOf (derivationOn directory (blanks stepLimit) (Ordered delivering receiving)) ⌝ }
+    ensures { λ r. ⌜ r ≡ replyOf (derivationOn directory (blanks stepLimit) (ordered delivering receiving)) ⌝ }
 {
     derive_reply(directory, STEPS, delivering, receiving)
 }
@@ -228,11 +255,11 @@ pub fn settle_by_value(
     delivering: Half,
     receiving: Half,
 ) -> Reply
-    ensures { λ r. ⌜ (r ≡ replyOf (settlementOn directory (now (positions .entry)) (now (cash .entry)) (blanks stepLimit) (Ordered delivering receiving)))
+    ensures { λ r. ⌜ (r ≡ replyOf (settlementOn directory (now (positions .entry)) (now (cash .entry)) (blanks stepLimit) (ordered delivering receiving)))
         × (now (positions .exit)
-        ≡ settlementOn directory (now (positions .entry)) (now (cash .entry)) (blanks stepLimit) (Ordered delivering receiving) .store .positions)
+        ≡ settlementOn directory (now (positions .entry)) (now (cash .entry)) (blanks stepLimit) (ordered delivering receiving) .store .positions)
         × (now (cash .exit)
-        ≡ settlementOn directory (now (positions .entry)) (now (cash .entry)) (blanks stepLimit) (Ordered delivering receiving) .store .cash) ⌝ }
+        ≡ settlementOn directory (now (positions .entry)) (now (cash .entry)) (blanks stepLimit) (ordered delivering receiving) .store .cash) ⌝ }
 {
     settle_reply(directory, positions, cash, STEPS, delivering, receiving)
 }
@@ -241,8 +268,8 @@ pub fn settle_by_value(
 
 // Derives the chain of two halves, delivering first, and writes its K steps to the start of the lent list.
 pub fn derive(directory: Directory, steps: &mut [Step], delivering: Half, receiving: Half) -> Answer
-    ensures { λ r. ⌜ (r ≡ derivationOn directory (now (steps .entry)) (Ordered delivering receiving) .answer)
-        × (now (steps .exit) ≡ derivationOn directory (now (steps .entry)) (Ordered delivering receiving) .steps) ⌝ }
+    ensures { λ r. ⌜ (r ≡ derivationOn directory (now (steps .entry)) (ordered delivering receiving) .answer)
+        × (now (steps .exit) ≡ derivationOn directory (now (steps .entry)) (ordered delivering receiving) .steps) ⌝ }
 {
     let reply = derive_reply(directory, steps.len(), delivering, receiving);
     finish(steps, reply)
@@ -255,8 +282,8 @@ pub fn derive_sided(
     first: SidedHalf,
     second: SidedHalf,
 ) -> Answer
-    ensures { λ r. ⌜ (r ≡ derivationOn directory (now (steps .entry)) (Sided first second) .answer)
-        × (now (steps .exit) ≡ derivationOn directory (now (steps .entry)) (Sided first second) .steps) ⌝ }
+    ensures { λ r. ⌜ (r ≡ derivationOn directory (now (steps .entry)) (sided first second) .answer)
+        × (now (steps .exit) ≡ derivationOn directory (now (steps .entry)) (sided first second) .steps) ⌝ }
 {
     let reply = derive_sided_reply(directory, steps.len(), first, second);
     finish(steps, reply)
@@ -271,12 +298,12 @@ pub fn settle(
     delivering: Half,
     receiving: Half,
 ) -> Answer
-    ensures { λ r. ⌜ (r ≡ settlementOn directory (now (positions .entry)) (now (cash .entry)) (now (steps .entry)) (Ordered delivering receiving) .answer)
+    ensures { λ r. ⌜ (r ≡ settlementOn directory (now (positions .entry)) (now (cash .entry)) (now (steps .entry)) (ordered delivering receiving) .answer)
         × (now (positions .exit)
-        ≡ settlementOn directory (now (positions .entry)) (now (cash .entry)) (now (steps .entry)) (Ordered delivering receiving) .store .positions)
+        ≡ settlementOn directory (now (positions .entry)) (now (cash .entry)) (now (steps .entry)) (ordered delivering receiving) .store .positions)
         × (now (cash .exit)
-        ≡ settlementOn directory (now (positions .entry)) (now (cash .entry)) (now (steps .entry)) (Ordered delivering receiving) .store .cash)
-        × (now (steps .exit) ≡ settlementOn directory (now (positions .entry)) (now (cash .entry)) (now (steps .entry)) (Ordered delivering receiving) .steps) ⌝ }
+        ≡ settlementOn directory (now (positions .entry)) (now (cash .entry)) (now (steps .entry)) (ordered delivering receiving) .store .cash)
+        × (now (steps .exit) ≡ settlementOn directory (now (positions .entry)) (now (cash .entry)) (now (steps .entry)) (ordered delivering receiving) .steps) ⌝ }
 {
     let reply = settle_reply(
         directory,
@@ -298,10 +325,10 @@ pub fn settle_sided(
     first: SidedHalf,
     second: SidedHalf,
 ) -> Answer
-    ensures { λ r. ⌜ (r ≡ settlementOn directory (now (positions .entry)) (now (cash .entry)) (now (steps .entry)) (Sided first second) .answer)
-        × (now (positions .exit) ≡ settlementOn directory (now (positions .entry)) (now (cash .entry)) (now (steps .entry)) (Sided first second) .store .positions)
-        × (now (cash .exit) ≡ settlementOn directory (now (positions .entry)) (now (cash .entry)) (now (steps .entry)) (Sided first second) .store .cash)
-        × (now (steps .exit) ≡ settlementOn directory (now (positions .entry)) (now (cash .entry)) (now (steps .entry)) (Sided first second) .steps) ⌝ }
+    ensures { λ r. ⌜ (r ≡ settlementOn directory (now (positions .entry)) (now (cash .entry)) (now (steps .entry)) (sided first second) .answer)
+        × (now (positions .exit) ≡ settlementOn directory (now (positions .entry)) (now (cash .entry)) (now (steps .entry)) (sided first second) .store .positions)
+        × (now (cash .exit) ≡ settlementOn directory (now (positions .entry)) (now (cash .entry)) (now (steps .entry)) (sided first second) .store .cash)
+        × (now (steps .exit) ≡ settlementOn directory (now (positions .entry)) (now (cash .entry)) (now (steps .entry)) (sided first second) .steps) ⌝ }
 {
     let reply = settle_sided_reply(directory, positions, cash, steps.len(), first, second);
     finish(steps, reply)

@@ -10,14 +10,14 @@ mod chaining; // chaining.rt: derivation and settlement, with their steps by val
 pub use blank::empty;
 pub use chaining::derive;
 pub use chaining::derive_by_value;
-pub use chaining::derive_halves;
 pub use chaining::derive_reply;
 pub use chaining::derive_sided;
+pub use chaining::derive_sided_reply;
 pub use chaining::settle;
 pub use chaining::settle_by_value;
-pub use chaining::settle_halves;
 pub use chaining::settle_reply;
 pub use chaining::settle_sided;
+pub use chaining::settle_sided_reply;
 pub use entering::enter_account;
 pub use entering::enter_csd;
 pub use entering::enter_link;

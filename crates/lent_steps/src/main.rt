@@ -16,7 +16,6 @@ use rules::Step;
 ghost use mathlib.Core.Path.{_≡_};
 ghost use Prim.Native.Nat.{_≤_};
 ghost use lib.ListN.{take, drop};
-ghost use Rattle.rules.specs.declared.Halves.the-variants.{Ordered, Sided};
 ghost use Rattle.rules.specs.Outcomes.{derivationOn, settlementOn};
 ghost use Rattle.lent_steps.specs.Lent.{size, left, backFrom};
 
@@ -46,7 +45,7 @@ fn derive(
     receiving: Half,
 ) -> Back
     requires { ⌜ lent ≤ size ⌝ }
-    ensures { λ r. ⌜ r ≡ backFrom (derivationOn directory (take lent list) (Ordered delivering receiving)) (drop lent list) ⌝ }
+    ensures { λ r. ⌜ r ≡ backFrom (derivationOn directory (take lent list) (ordered delivering receiving)) (drop lent list) ⌝ }
 {
     let mut steps = list;
     let answer = desk::derive(directory, &mut steps[..lent], delivering, receiving);
@@ -64,10 +63,10 @@ fn settle(
     receiving: Half,
 ) -> Back
     requires { ⌜ lent ≤ size ⌝ }
-    ensures { λ r. ⌜ (r ≡ backFrom (settlementOn directory (now (positions .entry)) (now (cash .entry)) (take lent list) (Ordered delivering receiving)) (drop lent list))
+    ensures { λ r. ⌜ (r ≡ backFrom (settlementOn directory (now (positions .entry)) (now (cash .entry)) (take lent list) (ordered delivering receiving)) (drop lent list))
         × (now (positions .exit)
-        ≡ settlementOn directory (now (positions .entry)) (now (cash .entry)) (take lent list) (Ordered delivering receiving) .store .positions)
-        × (now (cash .exit) ≡ settlementOn directory (now (positions .entry)) (now (cash .entry)) (take lent list) (Ordered delivering receiving) .store .cash) ⌝ }
+        ≡ settlementOn directory (now (positions .entry)) (now (cash .entry)) (take lent list) (ordered delivering receiving) .store .positions)
+        × (now (cash .exit) ≡ settlementOn directory (now (positions .entry)) (now (cash .entry)) (take lent list) (ordered delivering receiving) .store .cash) ⌝ }
 {
     let mut steps = list;
     let answer = desk::settle(
@@ -90,7 +89,7 @@ fn derive_sided(
     second: SidedHalf,
 ) -> Back
     requires { ⌜ lent ≤ size ⌝ }
-    ensures { λ r. ⌜ r ≡ backFrom (derivationOn directory (take lent list) (Sided first second)) (drop lent list) ⌝ }
+    ensures { λ r. ⌜ r ≡ backFrom (derivationOn directory (take lent list) (sided first second)) (drop lent list) ⌝ }
 {
     let mut steps = list;
     let answer = desk::derive_sided(directory, &mut steps[..lent], first, second);
@@ -107,9 +106,9 @@ fn settle_sided(
     second: SidedHalf,
 ) -> Back
     requires { ⌜ lent ≤ size ⌝ }
-    ensures { λ r. ⌜ (r ≡ backFrom (settlementOn directory (now (positions .entry)) (now (cash .entry)) (take lent list) (Sided first second)) (drop lent list))
-        × (now (positions .exit) ≡ settlementOn directory (now (positions .entry)) (now (cash .entry)) (take lent list) (Sided first second) .store .positions)
-        × (now (cash .exit) ≡ settlementOn directory (now (positions .entry)) (now (cash .entry)) (take lent list) (Sided first second) .store .cash) ⌝ }
+    ensures { λ r. ⌜ (r ≡ backFrom (settlementOn directory (now (positions .entry)) (now (cash .entry)) (take lent list) (sided first second)) (drop lent list))
+        × (now (positions .exit) ≡ settlementOn directory (now (positions .entry)) (now (cash .entry)) (take lent list) (sided first second) .store .positions)
+        × (now (cash .exit) ≡ settlementOn directory (now (positions .entry)) (now (cash .entry)) (take lent list) (sided first second) .store .cash) ⌝ }
 {
     let mut steps = list;
     let answer = desk::settle_sided(

@@ -10,7 +10,6 @@ use lib.Dec.{eqb}
 use lib.ListN.{length, take, drop, set, length-replicate}
 use lib.Seq.{take-append-seam}
 use Rattle.rules.specs.declared.Directory.{Directory}
-use Rattle.rules.specs.declared.Halves.{Halves}
 use Rattle.rules.specs.declared.Step.{Step}
 use Rattle.rules.specs.declared.Answer.{Answer}
 use Rattle.rules.specs.declared.Answer.the-variants.{Refused}
@@ -24,7 +23,7 @@ use Rattle.rules.specs.declared.CashTotal.{CashTotal}
 use Rattle.rules.specs.declared.CashTotal.the-variants.{SumCents, NoCents}
 use Rattle.rules.specs.Tests.{firstOf}
 use Rattle.rules.specs.Chain.{step}
-use Rattle.rules.specs.Calls.{Outcome, desk, isAccepted, lentSteps, deskSecurityTotal, deskCashTotal}
+use Rattle.rules.specs.Calls.{Halves, Outcome, desk, isAccepted, lentSteps, deskSecurityTotal, deskCashTotal}
 use Rattle.rules.specs.Stream.{callOf}
 use Rattle.rules.specs.Outcomes.{holding, settlementOn, derivationOn, blanks, byValue, replyOf}
 use Rattle.rules.proofs.Basics.{eqb-true, eqb-false, and-true, and-untrue}

@@ -9,13 +9,12 @@ use lib.Dec.{eqb, leb, ltb}
 use lib.ListN.{length, set, take}
 use Rattle.rules.specs.declared.Step.{Step}
 use Rattle.rules.specs.declared.Entered.{Entered}
-use Rattle.rules.specs.declared.Halves.{Halves}
 use Rattle.rules.specs.declared.SecurityTotal.{SecurityTotal}
 use Rattle.rules.specs.declared.SecurityTotal.the-variants.{SumUnits, NoUnits}
 use Rattle.rules.specs.declared.CashTotal.{CashTotal}
 use Rattle.rules.specs.declared.CashTotal.the-variants.{SumCents, NoCents}
 use Rattle.rules.specs.Tests.{Condition, _when_, firstOf}
-use Rattle.rules.specs.Calls.{Store, Call, enter, move, pay, settle, derive, Outcome, outcome, deskConditions, isAccepted, countOf}
+use Rattle.rules.specs.Calls.{Halves, Store, Call, enter, move, pay, settle, derive, Outcome, outcome, deskConditions, isAccepted, countOf}
 use Rattle.rules.specs.Calls.{deskSecurityTotal, deskCashTotal}
 use Rattle.rules.specs.Stream.{widthOf, callOf, orderedAt, sidedAt}
 use Rattle.rules.specs.Outcomes.{holding, blanks}

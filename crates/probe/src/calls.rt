@@ -12,7 +12,6 @@ use rules::Answer;
 use rules::CashTotal;
 use rules::Directory;
 use rules::Entered;
-use rules::Halves;
 use rules::Reply;
 use rules::SecurityTotal;
 use wire::commands::Width;
@@ -27,7 +26,7 @@ ghost use Prim.Native.Nat.{_+_, _<_};
 ghost use Rattle.rules.specs.Tests.{firstOf};
 ghost use Rattle.rules.specs.Calls.{desk, isAccepted};
 ghost use Rattle.rules.specs.Stream.{widthOf, callOf, transcript, Printed};
-ghost use Rattle.rules.specs.Outcomes.{holding};
+ghost use Rattle.rules.specs.Outcomes.{holding, settlementOn, derivationOn, blanks, replyOf};
 ghost use Rattle.layout.specs.Layout.{stepsPut};
 ghost use Rattle.probe.specs.Codes.{capped, codeOf};
 ghost use Rattle.probe.specs.Exports.{isEntry, isMove, isSettlement, isDerivation, width, halvesIn, readConditions, enteredBy};
@@ -208,14 +207,43 @@ pub extern "C" fn fluzzam_move(
 
 // ---- 0A to 0D
 
-// Two halves as the byte has them, delivering first or with their sides.
-fn halves_in(tag: u8, operands: &[u8]) -> Halves
-    ensures { λ r. ⌜ r ≡ halvesIn tag (now (operands .entry)) ⌝ }
+// Two halves booked, delivering first or with their sides, as the byte has them.
+fn settled(
+    directory: Directory,
+    positions: &mut [i64],
+    cash: &mut [i64],
+    lent: usize,
+    tag: u8,
+    operands: &[u8],
+) -> Reply
+    ensures { λ r. ⌜ (r ≡ replyOf (settlementOn directory (now (positions .entry)) (now (cash .entry)) (blanks lent) (halvesIn tag (now (operands .entry)))))
+        × (now (positions .exit)
+        ≡ settlementOn directory (now (positions .entry)) (now (cash .entry)) (blanks lent) (halvesIn tag (now (operands .entry))) .store .positions)
+        × (now (cash .exit)
+        ≡ settlementOn directory (now (positions .entry)) (now (cash .entry)) (blanks lent) (halvesIn tag (now (operands .entry))) .store .cash) ⌝ }
 {
     if tag < 12 {
-        return operands::decode_ordered(operands);
+        let delivering = operands::decode_delivering(operands);
+        let receiving = operands::decode_receiving(operands);
+        return desk::settle_reply(directory, positions, cash, lent, delivering, receiving);
     }
-    operands::decode_sided(operands)
+    let first = operands::decode_first(operands);
+    let second = operands::decode_second(operands);
+    desk::settle_sided_reply(directory, positions, cash, lent, first, second)
+}
+
+// Their chain only.
+fn derived(directory: Directory, lent: usize, tag: u8, operands: &[u8]) -> Reply
+    ensures { λ r. ⌜ r ≡ replyOf (derivationOn directory (blanks lent) (halvesIn tag (now (operands .entry)))) ⌝ }
+{
+    if tag < 12 {
+        let delivering = operands::decode_delivering(operands);
+        let receiving = operands::decode_receiving(operands);
+        return desk::derive_reply(directory, lent, delivering, receiving);
+    }
+    let first = operands::decode_first(operands);
+    let second = operands::decode_second(operands);
+    desk::derive_sided_reply(directory, lent, first, second)
 }
 
 fn replied(steps: &mut [u8], reply: Reply) -> u64
@@ -251,9 +279,8 @@ fn settle(
         return code_of(Answer::Refused(2));
     }
     let directory = read_directory(counts, rows);
-    let halves = halves_in(tag, &bytes[..end]);
     let lent = steps.len() / STEP_WIDTH;
-    let reply = desk::settle_halves(directory, positions, cash, lent, halves);
+    let reply = settled(directory, positions, cash, lent, tag, &bytes[..end]);
     replied(steps, reply)
 }
 
@@ -273,9 +300,8 @@ fn derive(counts: &[usize], rows: &[u8], tag: u8, bytes: &[u8], steps: &mut [u8]
         return code_of(Answer::Refused(2));
     }
     let directory = read_directory(counts, rows);
-    let halves = halves_in(tag, &bytes[..end]);
     let lent = steps.len() / STEP_WIDTH;
-    let reply = desk::derive_halves(directory, lent, halves);
+    let reply = derived(directory, lent, tag, &bytes[..end]);
     replied(steps, reply)
 }
 

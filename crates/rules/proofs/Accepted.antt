@@ -6,14 +6,14 @@ use mathlib.Core.Option.{Option, none, some}
 use Prim.Native.Nat.{ℕ, _<_}
 use lib.Dec.{eqb, ltb}
 use lib.ListN.{length}
-use Rattle.rules.specs.Types.{Half, Halves, Step}
+use Rattle.rules.specs.Types.{Half, Step}
 use Rattle.rules.specs.Tests.{isRow, _when_, firstOf}
 use Rattle.rules.specs.Directory.{Rows, rowsOf, isKind}
 use Rattle.rules.specs.Entries.{sound}
 use Rattle.rules.specs.Lookups.{homeOf, ask}
 use Rattle.rules.specs.Chain.{chained, stepsOf, chainConditions, stepLimit}
 use Rattle.rules.specs.Booking.{Way, positionCount, cashCount, contra, moveBy, moveChain, payShort, unitsShort, unitsBeyond}
-use Rattle.rules.specs.Calls.{Store, Call, move, pay, settle, misfit, coreConditions, deskConditions, delivering, receiving, sideUnknown, sameSide, halvesConditions, halvesChain, deriveConditions, bookConditions}
+use Rattle.rules.specs.Calls.{Halves, Store, Call, move, pay, settle, misfit, coreConditions, deskConditions, delivering, receiving, sideUnknown, sameSide, halvesConditions, halvesChain, deriveConditions, bookConditions}
 use Rattle.rules.specs.Refusals.{Delivers}
 use Rattle.rules.proofs.Basics.{impossible, unnot-false, or-none, eqb-is, Quiet, loud}
 use Rattle.rules.proofs.Several.{none-hold}

@@ -4,13 +4,13 @@ use mathlib.Core.Bool.{not}
 use mathlib.Core.List.{List, _∷_}
 use Prim.Native.Nat.{ℕ, _≤_}
 use lib.ListN.{length}
-use Rattle.rules.specs.Types.{Half, Halves, Step, Answer, Chained}
+use Rattle.rules.specs.Types.{Half, Step, Answer, Chained}
 use Rattle.rules.specs.Tests.{firstOf, _when_}
 use Rattle.rules.specs.Directory.{Rows, rowsOf}
 use Rattle.rules.specs.Entries.{sound}
 use Rattle.rules.specs.Lookups.{ask}
 use Rattle.rules.specs.Chain.{Chain, chained, stepsOf, chainConditions, stepLimit}
-use Rattle.rules.specs.Calls.{Store, Call, derive, Outcome, desk, misfit, deskConditions, delivering, receiving, halvesConditions, halvesChain, success, written, writtenFor, isAccepted, countOf}
+use Rattle.rules.specs.Calls.{Halves, Store, Call, derive, Outcome, desk, misfit, deskConditions, delivering, receiving, halvesConditions, halvesChain, success, written, writtenFor, isAccepted, countOf}
 use Rattle.rules.specs.Demands.{ChainOfHalves, Admitted, Returns, Derives}
 use Rattle.rules.specs.Refusals.{beforeChain, lists, directory, core, halves}
 use Rattle.rules.proofs.Basics.{unnot-false, Quiet, loud}

@@ -6,12 +6,12 @@ use mathlib.Core.List.{List·Memᴰ}
 use Prim.Native.Nat.{ℕ, _≤_, _<_}
 use native.Mathlib.Omega.{arith}
 use lib.Dec.{eqb}
-use Rattle.rules.specs.Types.{Account, Half, Halves}
+use Rattle.rules.specs.Types.{Account, Half}
 use Rattle.rules.specs.Tests.{isRow}
 use Rattle.rules.specs.Directory.{Rows, isKind, inBooks}
 use Rattle.rules.specs.Lookups.{ask}
 use Rattle.rules.specs.Booking.{limit, outOfRange, amountOutOfRange}
-use Rattle.rules.specs.Calls.{delivering, receiving, sideUnknown, sameSide, halfUnknown, halfOutOfRange, halvesDiffer, halvesConditions}
+use Rattle.rules.specs.Calls.{Halves, delivering, receiving, sideUnknown, sameSide, halfUnknown, halfOutOfRange, halvesDiffer, halvesConditions}
 use Rattle.rules.specs.Relations.{Is}
 use Rattle.rules.specs.Refusals
 use Rattle.rules.specs.Refusals.{beforeChain, NoRow, Delivers, HalfRefused, SidesRefused, BothRefused, HalvesRefused}

@@ -6,10 +6,10 @@ use mathlib.Core.List.{List}
 use Prim.Native.Nat.{_<_}
 use lib.Dec.{eqb, ltb}
 use lib.ListN.{length}
-use Rattle.rules.specs.Types.{Halves, Step}
+use Rattle.rules.specs.Types.{Step}
 use Rattle.rules.specs.Chain.{stepLimit}
 use Rattle.rules.specs.Booking.{positionCount, cashCount}
-use Rattle.rules.specs.Calls.{Store, Call, enter, move, pay, settle, derive, misfit}
+use Rattle.rules.specs.Calls.{Halves, Store, Call, enter, move, pay, settle, derive, misfit}
 use Rattle.rules.specs.Refusals.{Misfits, movePositions, payCash, settlePositions, settleCash, settleSteps, deriveSteps}
 use Rattle.rules.proofs.Reflection.{Says, says-as, says-or, says-ne, says-lt}
 

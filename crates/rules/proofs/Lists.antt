@@ -4,14 +4,14 @@ use mathlib.Core.List.{List, [], _∷_}
 use Prim.Native.Nat.{ℕ, zero, suc, _<_}
 use lib.IntN.{ℤ, pos, _+ℤ_, +ℤ-idr}
 use lib.Dec.{eqb}
-use Rattle.rules.specs.Types.{Half, Halves, Step}
+use Rattle.rules.specs.Types.{Half, Step}
 use Rattle.rules.specs.Tests.{firstOf}
 use Rattle.rules.specs.Directory.{Rows, rowsOf, securityLimit}
 use Rattle.rules.specs.Entries.{Row, Sized}
 use Rattle.rules.specs.Lookups.{ask}
 use Rattle.rules.specs.Chain.{stepsOf}
 use Rattle.rules.specs.Booking.{Way}
-use Rattle.rules.specs.Calls.{Store, Call, enter, move, pay, settle, derive, coreConditions, deskConditions, desk, outcome, success, changed, Item, item, Run, next, runFrom, run, emptyStore, delivering, receiving, halvesChain}
+use Rattle.rules.specs.Calls.{Halves, Store, Call, enter, move, pay, settle, derive, coreConditions, deskConditions, desk, outcome, success, changed, Item, item, Run, next, runFrom, run, emptyStore, delivering, receiving, halvesChain}
 use Rattle.rules.specs.Demands.{signed, Log, begins, calls, Balanced}
 use Rattle.rules.proofs.Sums.{pick-zero}
 use Rattle.rules.proofs.Facts.{Facts}

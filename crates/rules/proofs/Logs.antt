@@ -3,11 +3,11 @@ use Prim.Native.Nat.{ℕ, zero, suc}
 use mathlib.Core.Path.{_≡_, refl, ap, _∙_}
 use mathlib.Core.List.{List, []}
 use lib.IntN.{ℤ}
-use Rattle.rules.specs.Types.{Halves, Step, Answer, Entered, Reply}
+use Rattle.rules.specs.Types.{Step, Answer, Entered, Reply}
 use Rattle.rules.specs.Tests.{firstOf}
 use Rattle.rules.specs.Entries.{Row}
 use Rattle.rules.specs.Booking.{Way}
-use Rattle.rules.specs.Calls.{Store, Call, enter, move, pay, settle, derive, outcome, misfit, deskConditions, desk, Item}
+use Rattle.rules.specs.Calls.{Halves, Store, Call, enter, move, pay, settle, derive, outcome, misfit, deskConditions, desk, Item}
 use Rattle.rules.specs.Demands.{Log, begins, calls}
 use Rattle.rules.proofs.Theorems.{demand3}
 use Rattle.rules.specs.Outcomes.{holding, derivationOn, blanks}

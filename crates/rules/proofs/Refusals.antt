@@ -6,7 +6,7 @@ use mathlib.Core.List.{List, _∷_}
 use mathlib.Core.Option.{Option, none, some}
 use Prim.Native.Nat.{ℕ, zero, suc, _≤_}
 use native.Mathlib.Omega.{arith}
-use Rattle.rules.specs.Types.{Directory, Halves, Units, Cents}
+use Rattle.rules.specs.Types.{Directory, Units, Cents}
 use lib.IntN.{ℤ}
 use lib.Dec.{eqb}
 use lib.ListN.{length}
@@ -16,7 +16,7 @@ use Rattle.rules.specs.Entries.{Row, csdRow, securityRow, accountRow, pa
 use Rattle.rules.specs.Lookups.{homeOf, ask}
 use Rattle.rules.specs.Chain.{unchained, stepsOf, chainConditions}
 use Rattle.rules.specs.Booking.{Way, contra, moveBy, moveChain, positionCount, cashCount, securityTotalBy, securityTotalConditions, cashTotalBy, cashTotalConditions}
-use Rattle.rules.specs.Calls.{Store, Call, enter, move, pay, settle, derive, desk, core, outcome, success, coreConditions, deskConditions, delivering, receiving, halvesConditions, halvesChain, deriveConditions, bookConditions, isAccepted, unitsNumber, centsNumber, deskSecurityTotal, deskCashTotal}
+use Rattle.rules.specs.Calls.{Halves, Store, Call, enter, move, pay, settle, derive, desk, core, outcome, success, coreConditions, deskConditions, delivering, receiving, halvesConditions, halvesChain, deriveConditions, bookConditions, isAccepted, unitsNumber, centsNumber, deskSecurityTotal, deskCashTotal}
 use Rattle.rules.specs.Demands.{Numbered, Refuses}
 use Rattle.rules.proofs.Basics.{impossible, Quiet, quiet}
 use Rattle.rules.proofs.Places.{in-places}

@@ -8,12 +8,12 @@ use native.Mathlib.Omega.{arith}
 use lib.IntN.{ℤ}
 use lib.Dec.{eqb}
 use lib.ListN.{length}
-use Rattle.rules.specs.Types.{Account, Directory, Halves, Units, Cents, SumUnits, SumCents}
+use Rattle.rules.specs.Types.{Account, Directory, Units, Cents, SumUnits, SumCents}
 use Rattle.rules.specs.Tests.{isRow, Condition, firstOf}
 use Rattle.rules.specs.Directory.{Rows, rowsOf, accountLimit, isKind}
 use Rattle.rules.specs.Entries.{Row, csdRow, securityRow, accountRow, pairRow, linkRow, sound}
 use Rattle.rules.specs.Booking.{positionCount, cashCount, heldIn, cashOn, beyond, participants, everyAccount, sumBeyond, participantSum, cashSum, securityTotalBy, cashTotalBy}
-use Rattle.rules.specs.Calls.{Store, Call, enter, move, pay, settle, derive, misfit, coreConditions, deskConditions, outcome, desk, success, numberOf, unitsNumber, centsNumber, deskSecurityTotal, deskCashTotal}
+use Rattle.rules.specs.Calls.{Halves, Store, Call, enter, move, pay, settle, derive, misfit, coreConditions, deskConditions, outcome, desk, success, numberOf, unitsNumber, centsNumber, deskSecurityTotal, deskCashTotal}
 use Rattle.rules.specs.Demands.{Decides, Ruled, Totalled}
 use Rattle.rules.specs.Relations.{Is}
 use Rattle.rules.specs.Refusals

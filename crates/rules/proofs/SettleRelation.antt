@@ -8,13 +8,13 @@ use native.Mathlib.Omega.{arith}
 use lib.IntN.{ℤ, pos, _+ℤ_, _-ℤ_}
 use lib.Signed.{_<ℤ_, ltZ}
 use lib.Dec.{eqb}
-use Rattle.rules.specs.Types.{Half, Halves, Step}
+use Rattle.rules.specs.Types.{Half, Step}
 use Rattle.rules.specs.Tests.{Condition, _when_}
 use Rattle.rules.specs.Directory.{Rows, isKind}
 use Rattle.rules.specs.Lookups.{homeOf, ask}
 use Rattle.rules.specs.Chain.{Chain, chained, unchained, stepsOf, chainConditions}
 use Rattle.rules.specs.Booking.{beyond, unitsShort, unitsBeyond, cashShort, cashBeyond, paymentBeyond, cashOn}
-use Rattle.rules.specs.Calls.{delivering, receiving, halfUnknown, halvesDiffer, halvesConditions, halvesChain, deriveConditions, bookConditions, settleConditions}
+use Rattle.rules.specs.Calls.{Halves, delivering, receiving, halfUnknown, halvesDiffer, halvesConditions, halvesChain, deriveConditions, bookConditions, settleConditions}
 use Rattle.rules.specs.Relations.{ChainIs}
 use Rattle.rules.specs.Refusals
 use Rattle.rules.specs.Refusals.{Beyond, Short, Exceeds, Delivers, HalvesRefused, ChainRefused, DeriveRefused, BookRefused, SettleRefused}

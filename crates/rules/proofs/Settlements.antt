@@ -4,14 +4,14 @@ use mathlib.Core.Bool.{true}
 use mathlib.Core.List.{List}
 use Prim.Native.Nat.{ℕ}
 use lib.ListN.{length}
-use Rattle.rules.specs.Types.{Half, Halves, Step, Booked}
+use Rattle.rules.specs.Types.{Half, Step, Booked}
 use Rattle.rules.specs.Tests.{Condition, firstOf}
 use Rattle.rules.specs.Directory.{Rows, rowsOf}
 use Rattle.rules.specs.Entries.{sound}
 use Rattle.rules.specs.Lookups.{ask}
 use Rattle.rules.specs.Chain.{chained, stepsOf, chainConditions}
 use Rattle.rules.specs.Booking.{booked, paid}
-use Rattle.rules.specs.Calls.{Store, Call, settle, Outcome, outcome, desk, misfit, deskConditions, delivering, receiving, sideUnknown, sameSide, halvesConditions, halvesChain, deriveConditions, bookConditions, isAccepted, countOf}
+use Rattle.rules.specs.Calls.{Halves, Store, Call, settle, Outcome, outcome, desk, misfit, deskConditions, delivering, receiving, sideUnknown, sameSide, halvesConditions, halvesChain, deriveConditions, bookConditions, isAccepted, countOf}
 use Rattle.rules.specs.Demands.{MovedUnits, MovedCents, Bookable, BookedPair, Books}
 use Rattle.rules.proofs.Basics.{not-true, Quiet, loud}
 use Rattle.rules.proofs.Reflection.{denies, denied}

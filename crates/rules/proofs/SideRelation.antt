@@ -5,9 +5,9 @@ use mathlib.Core.Bool.{Bool, true, false, _||_, cond}
 use Prim.Native.Nat.{ℕ, _≤_}
 use native.Mathlib.Omega.{arith}
 use lib.Dec.{eqb, ltb}
-use Rattle.rules.specs.Types.{Half, SidedHalf, Halves, Ordered, Sided}
+use Rattle.rules.specs.Types.{Half, SidedHalf}
 use Rattle.rules.specs.Lookups.{Lookups}
-use Rattle.rules.specs.Calls.{deliveringSide, receivingSide, delivering, receiving, sideUnknown, sameSide, halfOutOfRange, halvesConditions}
+use Rattle.rules.specs.Calls.{Halves, ordered, sided, deliveringSide, receivingSide, delivering, receiving, sideUnknown, sameSide, halfOutOfRange, halvesConditions}
 use Rattle.rules.specs.Refusals
 use Rattle.rules.specs.Refusals.{Delivers, Among, SidesRefused}
 use Rattle.rules.proofs.Basics.{clash, or-none, eqb-is, eqb-not, ltb-not, Quiet}
@@ -22,8 +22,8 @@ delivers-is hs h g (Refusals.secondDelivers a b) = (rw a, rw a)
 
 -- where the side bytes are two sides, the halves of the definitions are those of the relation
 pub is-delivers : (hs : Halves) → sideUnknown hs ≡ false → sameSide hs ≡ false → Delivers hs (delivering hs) (receiving hs)
-is-delivers (Ordered h g) e f = Refusals.byPlace
-is-delivers (Sided x y) e f = go (eqb (x .side) deliveringSide) refl
+is-delivers (ordered h g) e f = Refusals.byPlace
+is-delivers (sided x y) e f = go (eqb (x .side) deliveringSide) refl
   where
     known : (ltb receivingSide (x .side) ≡ false) × (ltb receivingSide (y .side) ≡ false)
     known = or-none (ltb receivingSide (x .side)) (ltb receivingSide (y .side)) e
@@ -37,7 +37,7 @@ is-delivers (Sided x y) e f = go (eqb (x .side) deliveringSide) refl
     two : x .side ≢ y .side
     two = eqb-not (x .side) (y .side) f
 
-    go : (b : Bool) → eqb (x .side) deliveringSide ≡ b → Delivers (Sided x y) (cond b (x .half) (y .half)) (cond b (y .half) (x .half))
+    go : (b : Bool) → eqb (x .side) deliveringSide ≡ b → Delivers (sided x y) (cond b (x .half) (y .half)) (cond b (y .half) (x .half))
     go true z = let first : x .side ≡ 0 = eqb-is (x .side) deliveringSide z in let one : y .side ≡ 1 = omega (arith, lower, two) in Refusals.firstDelivers {x = x} {y = y} first one
     go false z =
         let other : x .side ≢ 0 = eqb-not (x .side) deliveringSide z in
@@ -70,39 +70,39 @@ among-either hs h (Refusals.sidedSecond {x = x} {y = y}) = go (eqb (x .side) del
     go false = inl refl
 
 pub delivering-among : (hs : Halves) → Among (delivering hs) hs
-delivering-among (Ordered h g) = Refusals.first
-delivering-among (Sided x y) = go (eqb (x .side) deliveringSide)
+delivering-among (ordered h g) = Refusals.first
+delivering-among (sided x y) = go (eqb (x .side) deliveringSide)
   where
-    go : (b : Bool) → Among (cond b (x .half) (y .half)) (Sided x y)
+    go : (b : Bool) → Among (cond b (x .half) (y .half)) (sided x y)
     go true = Refusals.sidedFirst
     go false = Refusals.sidedSecond
 
 pub receiving-among : (hs : Halves) → Among (receiving hs) hs
-receiving-among (Ordered h g) = Refusals.second
-receiving-among (Sided x y) = go (eqb (x .side) deliveringSide)
+receiving-among (ordered h g) = Refusals.second
+receiving-among (sided x y) = go (eqb (x .side) deliveringSide)
   where
-    go : (b : Bool) → Among (cond b (y .half) (x .half)) (Sided x y)
+    go : (b : Bool) → Among (cond b (y .half) (x .half)) (sided x y)
     go true = Refusals.sidedSecond
     go false = Refusals.sidedFirst
 
 -- ---- 7 and 23
 pub says-side-unknown : (hs : Halves) → Says (SidesRefused hs 7) (sideUnknown hs)
-says-side-unknown (Ordered h g) = record { holds = λ e. clash false e refl; tests = λ p. elim p [ ] }
-says-side-unknown (Sided x y) = says-as (says-or (ltb receivingSide (x .side)) (ltb receivingSide (y .side)) (says-neither (x .side)) (says-neither (y .side))) to from
+says-side-unknown (ordered h g) = record { holds = λ e. clash false e refl; tests = λ p. elim p [ ] }
+says-side-unknown (sided x y) = says-as (says-or (ltb receivingSide (x .side)) (ltb receivingSide (y .side)) (says-neither (x .side)) (says-neither (y .side))) to from
   where
-    to : ((x .side ≢ 0) × (x .side ≢ 1)) ⊎ ((y .side ≢ 0) × (y .side ≢ 1)) → SidesRefused (Sided x y) 7
+    to : ((x .side ≢ 0) × (x .side ≢ 1)) ⊎ ((y .side ≢ 0) × (y .side ≢ 1)) → SidesRefused (sided x y) 7
     to (inl n) = Refusals.firstSide (n .0) (n .1)
     to (inr n) = Refusals.secondSide (n .0) (n .1)
 
-    from : SidesRefused (Sided x y) 7 → ((x .side ≢ 0) × (x .side ≢ 1)) ⊎ ((y .side ≢ 0) × (y .side ≢ 1))
+    from : SidesRefused (sided x y) 7 → ((x .side ≢ 0) × (x .side ≢ 1)) ⊎ ((y .side ≢ 0) × (y .side ≢ 1))
     from (Refusals.firstSide a b) = inl (a, b)
     from (Refusals.secondSide a b) = inr (a, b)
 
 pub says-one-side : (hs : Halves) → Says (SidesRefused hs 23) (sameSide hs)
-says-one-side (Ordered h g) = record { holds = λ e. clash false e refl; tests = λ p. elim p [ ] }
-says-one-side (Sided x y) = says-as (says-eq (x .side) (y .side)) Refusals.oneSide from
+says-one-side (ordered h g) = record { holds = λ e. clash false e refl; tests = λ p. elim p [ ] }
+says-one-side (sided x y) = says-as (says-eq (x .side) (y .side)) Refusals.oneSide from
   where
-    from : SidesRefused (Sided x y) 23 → x .side ≡ y .side
+    from : SidesRefused (sided x y) 23 → x .side ≡ y .side
     from (Refusals.oneSide e) = e
 
 pub sides-number : (hs : Halves) (n : ℕ) → SidesRefused hs n → (n ≡ 7) ⊎ (n ≡ 23)

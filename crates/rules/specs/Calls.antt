@@ -5,7 +5,7 @@ use mathlib.Core.List.{List, [], _∷_, _++_}
 use lib.IntN.{ℤ, pos}
 use lib.Dec.{ltb, eqb}
 use lib.ListN.{length, drop}
-use Rattle.rules.specs.Types.{Directory, Half, SidedHalf, Halves, Ordered, Sided, Step, Answer, Accepted, Booked, Chained, Refused, SecurityTotal, SumUnits, NoUnits, CashTotal, SumCents, NoCents}
+use Rattle.rules.specs.Types.{Directory, Half, SidedHalf, Step, Answer, Accepted, Booked, Chained, Refused, SecurityTotal, SumUnits, NoUnits, CashTotal, SumCents, NoCents}
 use Rattle.rules.specs.Tests.{Condition, _when_, firstOf}
 use Rattle.rules.specs.Directory.{rowsOf}
 use Rattle.rules.specs.Entries.{Row, rowConditions, addRow, emptyDirectory, sound}
@@ -19,6 +19,11 @@ pub record Store : Type 0 where
   pub directory : Directory
   pub positions : List ℤ
   pub cash : List ℤ
+
+-- Two halves as a call is given them: "delivering first" (01), or each with its side, "in either order" (02).
+pub data Halves : Type 0 where
+  ordered : Half → Half → Halves
+  sided : SidedHalf → SidedHalf → Halves
 
 -- A call with its operands: an entry; a bring-in or take-out of an account, a security and a quantity; a pay-in or pay-out of an
 -- account and an amount; a settlement or derivation of two halves with the step list that it is lent.
@@ -75,23 +80,23 @@ receivingSide = 1
 -- the half that delivers: "two halves, delivering first" (01); "Desks export the two halves in either order, so the side that place implied is to be
 -- written out" (02)
 abbrev pub delivering : Halves → Half
-delivering (Ordered h g) = h
-delivering (Sided x y) = cond (eqb (x .side) deliveringSide) (x .half) (y .half)
+delivering (ordered h g) = h
+delivering (sided x y) = cond (eqb (x .side) deliveringSide) (x .half) (y .half)
 
 -- the other one
 abbrev pub receiving : Halves → Half
-receiving (Ordered h g) = g
-receiving (Sided x y) = cond (eqb (x .side) deliveringSide) (y .half) (x .half)
+receiving (ordered h g) = g
+receiving (sided x y) = cond (eqb (x .side) deliveringSide) (y .half) (x .half)
 
 -- 7 of the sides: "another byte value is 7"
 abbrev pub sideUnknown : Halves → Bool
-sideUnknown (Ordered h g) = false
-sideUnknown (Sided x y) = ltb receivingSide (x .side) || ltb receivingSide (y .side)
+sideUnknown (ordered h g) = false
+sideUnknown (sided x y) = ltb receivingSide (x .side) || ltb receivingSide (y .side)
 
 -- 23: "two halves of the same side"
 abbrev pub sameSide : Halves → Bool
-sameSide (Ordered h g) = false
-sameSide (Sided x y) = eqb (x .side) (y .side)
+sameSide (ordered h g) = false
+sameSide (sided x y) = eqb (x .side) (y .side)
 
 -- 6 of a half: its account, counterpart CSD or security "names no row"
 abbrev pub halfUnknown : Lookups → Half → Bool
@@ -109,7 +114,7 @@ halvesDiffer k h g =
     || (not (eqb (h .amount) (g .amount))
     || (not (k .books (g .account) (h .counterpart)) || not (k .books (h .account) (g .counterpart)))))
 
--- 6 to 13, each over both halves: h delivers, g receives. 7 and 23 are also asked of their sides; 23 comes "just before 12"
+-- 6, 7, 10, 23, 12, 13, each over both halves: h delivers, g receives. 7 and 23 are asked of their sides too; 23 comes "just before 12"
 abbrev pub bothConditions : Lookups → Half → Half → Bool → Bool → List Condition
 bothConditions k h g unknown same =
     6 when (halfUnknown k h || halfUnknown k g)
@@ -128,7 +133,7 @@ halvesConditions k hs = bothConditions k (delivering hs) (receiving hs) (sideUnk
 abbrev pub halvesChain : Lookups → Halves → Chain
 halvesChain k hs = chain k (delivering hs .security) (delivering hs .account) (receiving hs .account)
 
--- 6 to 18
+-- then 14 to 18
 abbrev pub deriveConditions : Lookups → Halves → List Condition
 deriveConditions k hs = halvesConditions k hs ++ chainConditions (halvesChain k hs)
 
@@ -140,7 +145,7 @@ bookConditions k p c h g steps =
     ∷ 22 when (Booking.unitsBeyond p (h .security) (h .quantity) steps || Booking.paymentBeyond c (g .account) (h .account) (h .amount))
     ∷ []
 
--- 6 to 22
+-- then 20 to 22
 abbrev pub settleConditions : Lookups → List ℤ → List ℤ → Halves → List Condition
 settleConditions k p c hs = deriveConditions k hs ++ bookConditions k p c (delivering hs) (receiving hs) (stepsOf (halvesChain k hs))
 
@@ -155,7 +160,7 @@ misfit (settle hs lent) st =
     not (eqb (length (st .positions)) positionCount) || (not (eqb (length (st .cash)) cashCount) || ltb (length lent) stepLimit)
 misfit (derive hs lent) st = ltb (length lent) stepLimit
 
--- 5 to 22
+-- from 5 on
 abbrev pub coreConditions : Call → Store → List Condition
 coreConditions (enter x) st = rowConditions (rowsOf (st .directory)) x
 coreConditions (move w a s q) st = moveConditions (ask (rowsOf (st .directory))) (st .positions) w a s q
@@ -163,7 +168,7 @@ coreConditions (pay w a m) st = payConditions (ask (rowsOf (st .directory))) (st
 coreConditions (settle hs lent) st = settleConditions (ask (rowsOf (st .directory))) (st .positions) (st .cash) hs
 coreConditions (derive hs lent) st = deriveConditions (ask (rowsOf (st .directory))) hs
 
--- 3 to 22: 4 is "not sound"
+-- 3, 4, which is "not sound", and from 5 on
 abbrev pub deskConditions : Call → Store → List Condition
 deskConditions c st = 3 when misfit c st ∷ 4 when not (sound (st .directory)) ∷ coreConditions c st
 

@@ -8,13 +8,13 @@ use lib.IntN.{ℤ, pos, negℤ, _+ℤ_, _-ℤ_}
 use lib.Signed.{_≤ℤ_}
 use lib.Dec.{eqb}
 use lib.ListN.{length}
-use Rattle.rules.specs.Types.{Account, Pair, Directory, Half, Halves, Step, Answer, Accepted, Booked, Chained, Refused, SumUnits, SumCents}
+use Rattle.rules.specs.Types.{Account, Pair, Directory, Half, Step, Answer, Accepted, Booked, Chained, Refused, SumUnits, SumCents}
 use Rattle.rules.specs.Directory.{Rows, rowsOf, isKind, inBooks, noAccount, accountLimit, securityLimit}
 use Rattle.rules.specs.Entries.{Row, csdRow, securityRow, accountRow, pairRow, linkRow, addRow, Sized}
 use Rattle.rules.specs.Lookups.{homeOf}
 use Rattle.rules.specs.Chain.{stepLimit}
 use Rattle.rules.specs.Booking.{Way, incoming, outgoing, limit, cashCount, heldIn, cashOn, sum, everyAccount, participants, participantSum, cashSum, moveStep, payment}
-use Rattle.rules.specs.Calls.{Store, Call, enter, move, pay, settle, derive, Outcome, Item, item, run, desk, core, deskSecurityTotal, deskCashTotal, success, written, lentSteps, isAccepted, numberOf, unitsNumber, centsNumber, emptyStore}
+use Rattle.rules.specs.Calls.{Halves, Store, Call, enter, move, pay, settle, derive, Outcome, Item, item, run, desk, core, deskSecurityTotal, deskCashTotal, success, written, lentSteps, isAccepted, numberOf, unitsNumber, centsNumber, emptyStore}
 use Rattle.rules.specs.Relations.{Is, ChainIs}
 use Rattle.rules.specs.Refusals.{beforeChain, places, NoneApplies, First, ParticipantOrOmnibus, Beyond, Sound, Misfits, ContraOf, Delivers, Applies, UnitsTotalRefused, CashTotalRefused}
 

@@ -6,14 +6,14 @@ use mathlib.Core.List.{List, [], _∷_, _++_, map}
 use lib.IntN.{ℤ, pos, negsuc}
 use lib.Dec.{leb}
 use lib.ListN.{length}
-use Rattle.rules.specs.Types.{Csd, Account, Pair, Link, Step, Half, Ordered, Answer, Accepted, Booked}
+use Rattle.rules.specs.Types.{Csd, Account, Pair, Link, Step, Half, Answer, Accepted, Booked}
 use Rattle.rules.specs.Identifiers.{isinSum, isinChecks, isinSumLeft}
 use Rattle.rules.specs.Directory.{Rows, noCsd, noAccount}
 use Rattle.rules.specs.Entries.{csdRow, securityRow, accountRow, pairRow, linkRow, soundRows}
 use Rattle.rules.specs.Lookups.{ask}
 use Rattle.rules.specs.Chain.{Chain, chained, unchained, chain, generated}
 use Rattle.rules.specs.Booking.{incoming, heldIn}
-use Rattle.rules.specs.Calls.{Call, enter, move, settle, Item, run}
+use Rattle.rules.specs.Calls.{ordered, Call, enter, move, settle, Item, run}
 use Rattle.rules.specs.Stream.{bytes, programSteps, transcript}
 
 -- ---- chains: "I, J issuers; X, Y external; → default"
@@ -172,7 +172,7 @@ sampleCalls =
     ∷ enter (linkRow (record { security = 0; kind = 0; csd = 1; technical = noCsd; flag = 1; account = 3 }))
     ∷ enter (linkRow (record { security = 0; kind = 1; csd = 0; technical = 1; flag = 1; account = noAccount }))
     ∷ move incoming 4 0 100
-    ∷ settle (Ordered (half 4 0) (half 0 1)) programSteps
+    ∷ settle (ordered (half 4 0) (half 0 1)) programSteps
     ∷ []
 
 -- the answers, newest first: `booked 2` and twelve times `ok`
@@ -188,9 +188,9 @@ samplePositions = pos 40 ∷ negsuc 39 ∷ pos 40 ∷ negsuc 99 ∷ pos 60 ∷ [
 abbrev quantity : ℕ → List ℕ
 quantity q = 0 ∷ 0 ∷ 0 ∷ 0 ∷ 0 ∷ 0 ∷ 0 ∷ q ∷ []
 
--- the sample as the bytes that `realign` reads
-unfoldable pub sampleInput : List ℕ
-sampleInput =
+-- the sample's commands up to its pair, as the bytes that `realign` reads
+abbrev pub sampleStart : List ℕ
+sampleStart =
     (1 ∷ 0 ∷ bytes "AAAAXX00XXX")
     ++ (1 ∷ 0 ∷ bytes "AAAAXX01XXX")
     ++ (2 ∷ bytes "XS0000000009")
@@ -203,14 +203,27 @@ sampleInput =
     ++ (5 ∷ 0 ∷ 0 ∷ 1 ∷ 0xff ∷ 1 ∷ 0 ∷ 3 ∷ [])
     ++ (5 ∷ 0 ∷ 1 ∷ 0 ∷ 1 ∷ 1 ∷ 0xff ∷ 0xff ∷ [])
     ++ ((6 ∷ 0 ∷ 4 ∷ 0 ∷ []) ++ quantity 100)
-    ++ ((10 ∷ 0 ∷ 4 ∷ 0 ∷ 0 ∷ []) ++ quantity 40 ++ quantity 0)
-    ++ ((0 ∷ 0 ∷ 1 ∷ 0 ∷ []) ++ quantity 40 ++ quantity 0)
 
--- "Output: `1 ok` to `12 ok`, a line each, then" the rest
+-- its halves
+abbrev pub sampleDelivering : List ℕ
+sampleDelivering = (0 ∷ 4 ∷ 0 ∷ 0 ∷ []) ++ quantity 40 ++ quantity 0
+
+abbrev pub sampleReceiving : List ℕ
+sampleReceiving = (0 ∷ 0 ∷ 1 ∷ 0 ∷ []) ++ quantity 40 ++ quantity 0
+
+-- the whole
+unfoldable pub sampleInput : List ℕ
+sampleInput = sampleStart ++ ((10 ∷ sampleDelivering) ++ sampleReceiving)
+
+-- "Output: `1 ok` to `12 ok`, a line each, then" the answer to the pair and the rest
+abbrev pub outputWith : List ℕ → List ℕ
+outputWith answer =
+    bytes "1 ok\n2 ok\n3 ok\n4 ok\n5 ok\n6 ok\n7 ok\n8 ok\n9 ok\n10 ok\n11 ok\n12 ok\n13 "
+    ++ (answer ++ bytes "\n- 1 4 2\n- 0 1 0\ntotal XS0000000009 100\ncash 0\n")
+
+-- `booked 2`
 unfoldable pub sampleOutput : List ℕ
-sampleOutput =
-    bytes "1 ok\n2 ok\n3 ok\n4 ok\n5 ok\n6 ok\n7 ok\n8 ok\n9 ok\n10 ok\n11 ok\n12 ok\n"
-    ++ bytes "13 booked 2\n- 1 4 2\n- 0 1 0\ntotal XS0000000009 100\ncash 0\n"
+sampleOutput = outputWith (bytes "booked 2")
 
 -- ---- what is shown
 

@@ -12,7 +12,7 @@ pub mod Stream
 pub mod Relations
 pub mod Refusals
 pub mod Demands
-pub mod Requests
 pub mod Examples
+pub mod Requests
 pub mod Outcomes
 pub mod Logs

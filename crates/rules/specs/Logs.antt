@@ -3,10 +3,10 @@ use Prim.Native.Nat.{ℕ}
 use mathlib.Core.Path.{_≡_}
 use mathlib.Core.List.{List, [], _∷_}
 use lib.IntN.{ℤ}
-use Rattle.rules.specs.Types.{Halves, Step, Answer, Entered, Reply}
+use Rattle.rules.specs.Types.{Step, Answer, Entered, Reply}
 use Rattle.rules.specs.Entries.{Row}
 use Rattle.rules.specs.Booking.{Way}
-use Rattle.rules.specs.Calls.{Store, Call, enter, move, pay, settle, derive, Item, item, emptyStore}
+use Rattle.rules.specs.Calls.{Halves, Store, Call, enter, move, pay, settle, derive, Item, item, emptyStore}
 use Rattle.rules.specs.Demands.{Log, Balanced}
 use Rattle.rules.specs.Outcomes.{holding, enteredOn, movementOn, paymentOn, settlementOn, derivationOn, blanks, replyOf}
 
@@ -26,14 +26,14 @@ pub data Made (st : Store) : Call → Answer → Store → Type 0 where
   settled : (hs : Halves) (lent : List Step) (r : Answer) (p c : List ℤ) (steps : List Step) → (r ≡ settlementOn (st .directory) (st .positions) (st .cash) lent hs .answer)
       × (p ≡ settlementOn (st .directory) (st .positions) (st .cash) lent hs .store .positions) × (c ≡ settlementOn (st .directory) (st .positions) (st .cash) lent hs .store .cash)
       × (steps ≡ settlementOn (st .directory) (st .positions) (st .cash) lent hs .steps) → Made st (settle hs lent) r (holding (st .directory) p c)
-  -- settle_halves, settle_reply, which are told how many steps are lent; settle_by_value with 16
+  -- settle_reply, settle_sided_reply, which are told how many steps are lent; settle_by_value with 16
   settledByValue : (n : ℕ) (hs : Halves) (r : Reply) (p c : List ℤ) → (r ≡ replyOf (settlementOn (st .directory) (st .positions) (st .cash) (blanks n) hs))
       × (p ≡ settlementOn (st .directory) (st .positions) (st .cash) (blanks n) hs .store .positions)
       × (c ≡ settlementOn (st .directory) (st .positions) (st .cash) (blanks n) hs .store .cash) → Made st (settle hs (blanks n)) (r .answer) (holding (st .directory) p c)
   -- derive, derive_sided
   derived : (hs : Halves) (lent : List Step) (r : Answer) (steps : List Step) → (r ≡ derivationOn (st .directory) lent hs .answer) × (steps ≡ derivationOn (st .directory) lent hs .steps)
       → Made st (derive hs lent) r st
-  -- derive_halves, derive_reply, derive_by_value
+  -- derive_reply, derive_sided_reply, derive_by_value
   derivedByValue : (n : ℕ) (hs : Halves) (r : Reply) → r ≡ replyOf (derivationOn (st .directory) (blanks n) hs) → Made st (derive hs (blanks n)) (r .answer) st
 
 -- "Each call is handed the directory that the last one returned and the positions and cash that it left"

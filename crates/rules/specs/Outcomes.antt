@@ -4,11 +4,11 @@ use Prim.Native.Nat.{ℕ}
 use mathlib.Core.List.{List, []}
 use lib.IntN.{ℤ}
 use lib.ListN.{length, replicate, take}
-use Rattle.rules.specs.Types.{Directory, Halves, Step, Steps, Reply, Entered}
+use Rattle.rules.specs.Types.{Directory, Step, Steps, Reply, Entered}
 use Rattle.rules.specs.Entries.{Row}
 use Rattle.rules.specs.Chain.{step, stepLimit}
 use Rattle.rules.specs.Booking.{Way}
-use Rattle.rules.specs.Calls.{Store, Outcome, enter, move, pay, settle, derive, desk, countOf, written}
+use Rattle.rules.specs.Calls.{Halves, Store, Outcome, enter, move, pay, settle, derive, desk, countOf, written}
 
 -- the store that a function is handed
 abbrev pub holding : Directory → List ℤ → List ℤ → Store

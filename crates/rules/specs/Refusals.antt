@@ -7,14 +7,14 @@ use Prim.Native.Nat.{ℕ, _+_, _*_, _≤_, _<_}
 use lib.IntN.{ℤ, pos, negℤ, _+ℤ_, _-ℤ_}
 use lib.Signed.{_<ℤ_}
 use lib.ListN.{length, take}
-use Rattle.rules.specs.Types.{Csd, Security, Account, Pair, Link, Directory, Half, SidedHalf, Halves, Ordered, Sided, Step, WalkEnd, Inside, Outside, NoLink, Join}
+use Rattle.rules.specs.Types.{Csd, Security, Account, Pair, Link, Directory, Half, SidedHalf, Step, WalkEnd, Inside, Outside, NoLink, Join}
 use Rattle.rules.specs.Identifiers.{byteAt}
 use Rattle.rules.specs.Directory.{Rows, rowsOf, csdLimit, securityLimit, accountLimit, pairLimit, linkLimit, noCsd, noAccount}
 use Rattle.rules.specs.Lookups.{homeOf}
 use Rattle.rules.specs.Entries.{Row, csdRow, securityRow, accountRow, pairRow, linkRow}
 use Rattle.rules.specs.Chain.{stepLimit}
 use Rattle.rules.specs.Booking.{Way, outgoing, limit, positionCount, cashCount, heldIn, cashOn, moveStep, payment}
-use Rattle.rules.specs.Calls.{Store, Call, enter, move, pay, settle, derive, deliveringSide, receivingSide}
+use Rattle.rules.specs.Calls.{Halves, ordered, sided, Store, Call, enter, move, pay, settle, derive, deliveringSide, receivingSide}
 use Rattle.rules.specs.Relations.{Is, External, InT2S, IssuerOf, DefaultOf, LinkTo, NoIssuer, DefaultWalk, NoMeeting, NoDirected, Joins, ChainIs}
 
 -- ---- the numbers
@@ -256,16 +256,16 @@ pub data PayRefused (r : Rows) (c : List ℤ) (w : Way) (a m : ℕ) : ℕ → Ty
 -- which half delivers and which receives: "two halves, delivering first" (01); "one byte before each half: 0 delivering, 1 receiving", "in either
 -- order" (02)
 pub data Delivers : Halves → Half → Half → Type 0 where
-  byPlace : {h g : Half} → Delivers (Ordered h g) h g
-  firstDelivers : {x y : SidedHalf} → x .side ≡ deliveringSide → y .side ≡ receivingSide → Delivers (Sided x y) (x .half) (y .half)
-  secondDelivers : {x y : SidedHalf} → x .side ≡ receivingSide → y .side ≡ deliveringSide → Delivers (Sided x y) (y .half) (x .half)
+  byPlace : {h g : Half} → Delivers (ordered h g) h g
+  firstDelivers : {x y : SidedHalf} → x .side ≡ deliveringSide → y .side ≡ receivingSide → Delivers (sided x y) (x .half) (y .half)
+  secondDelivers : {x y : SidedHalf} → x .side ≡ receivingSide → y .side ≡ deliveringSide → Delivers (sided x y) (y .half) (x .half)
 
 -- one of the two halves, whatever its side
 pub data Among : Half → Halves → Type 0 where
-  first : {h g : Half} → Among h (Ordered h g)
-  second : {h g : Half} → Among g (Ordered h g)
-  sidedFirst : {x y : SidedHalf} → Among (x .half) (Sided x y)
-  sidedSecond : {x y : SidedHalf} → Among (y .half) (Sided x y)
+  first : {h g : Half} → Among h (ordered h g)
+  second : {h g : Half} → Among g (ordered h g)
+  sidedFirst : {x y : SidedHalf} → Among (x .half) (sided x y)
+  sidedSecond : {x y : SidedHalf} → Among (y .half) (sided x y)
 
 -- one half: 6, 7 and 10
 pub data HalfRefused (r : Rows) (h : Half) : ℕ → Type 0 where
@@ -279,9 +279,9 @@ pub data HalfRefused (r : Rows) (h : Half) : ℕ → Type 0 where
 
 -- the side bytes: "It refuses with 23 .. two halves of the same side; another byte value is 7."
 pub data SidesRefused : Halves → ℕ → Type 0 where
-  firstSide : {x y : SidedHalf} → x .side ≢ deliveringSide → x .side ≢ receivingSide → SidesRefused (Sided x y) 7
-  secondSide : {x y : SidedHalf} → y .side ≢ deliveringSide → y .side ≢ receivingSide → SidesRefused (Sided x y) 7
-  oneSide : {x y : SidedHalf} → x .side ≡ y .side → SidesRefused (Sided x y) 23
+  firstSide : {x y : SidedHalf} → x .side ≢ deliveringSide → x .side ≢ receivingSide → SidesRefused (sided x y) 7
+  secondSide : {x y : SidedHalf} → y .side ≢ deliveringSide → y .side ≢ receivingSide → SidesRefused (sided x y) 7
+  oneSide : {x y : SidedHalf} → x .side ≡ y .side → SidesRefused (sided x y) 23
 
 -- h delivers, g receives: "security, quantity, amount differ, or a counterpart isn't the other's CSD"; "both accounts the same"
 pub data BothRefused (r : Rows) (h g : Half) : ℕ → Type 0 where
@@ -292,7 +292,7 @@ pub data BothRefused (r : Rows) (h g : Half) : ℕ → Type 0 where
   delivererCsd : (y : Account) → Is (r .accounts) (h .account) y → y .csd ≢ g .counterpart → BothRefused r h g 12
   sameAccount : h .account ≡ g .account → BothRefused r h g 13
 
--- 6 to 13
+-- all of these
 pub data HalvesRefused (r : Rows) (hs : Halves) : ℕ → Type 0 where
   each : {n : ℕ} (h : Half) → Among h hs → HalfRefused r h n → HalvesRefused r hs n
   sides : {n : ℕ} → SidesRefused hs n → HalvesRefused r hs n
@@ -349,7 +349,7 @@ pub data SettleRefused (r : Rows) (p c : List ℤ) (hs : Halves) : ℕ → Type 
 
 -- ---- any call
 
--- 5 to 22
+-- from 5 on
 abbrev pub CoreRefused : Call → Store → ℕ → Type 0
 CoreRefused (enter x) st = RowRefused (rowsOf (st .directory)) x
 CoreRefused (move w a s q) st = MoveRefused (rowsOf (st .directory)) (st .positions) w a s q
@@ -357,7 +357,7 @@ CoreRefused (pay w a m) st = PayRefused (rowsOf (st .directory)) (st .cash) w a 
 CoreRefused (settle hs lent) st = SettleRefused (rowsOf (st .directory)) (st .positions) (st .cash) hs
 CoreRefused (derive hs lent) st = DeriveRefused (rowsOf (st .directory)) hs
 
--- 3 to 22: the number n applies to the call
+-- the number n applies to the call
 pub data Applies (c : Call) (st : Store) : ℕ → Type 0 where
   lists : Misfits st c → Applies c st 3
   directory : (Sound (st .directory) → ⊥) → Applies c st 4

@@ -9,12 +9,12 @@ use mathlib.Core.Option.{Option, none, some}
 use lib.IntN.{ℤ, pos, negsuc}
 use lib.Dec.{ltb, eqb}
 use lib.ListN.{length, getD, getElem?, take, drop, replicate}
-use Rattle.rules.specs.Types.{Account, Security, Half, SidedHalf, Halves, Ordered, Sided, Step, Units, Cents, Answer, Accepted, Booked, Chained, Refused}
+use Rattle.rules.specs.Types.{Account, Security, Half, SidedHalf, Step, Units, Cents, Answer, Accepted, Booked, Chained, Refused}
 use Rattle.rules.specs.Directory.{rowsOf, isKind}
 use Rattle.rules.specs.Entries.{Row, csdRow, securityRow, accountRow, pairRow, linkRow}
 use Rattle.rules.specs.Chain.{stepLimit}
 use Rattle.rules.specs.Booking.{Way, incoming, outgoing, participantSum, cashSum}
-use Rattle.rules.specs.Calls.{Store, Call, enter, move, pay, settle, derive, Outcome, desk, countOf, emptyStore}
+use Rattle.rules.specs.Calls.{Halves, ordered, sided, Store, Call, enter, move, pay, settle, derive, Outcome, desk, countOf, emptyStore}
 
 -- ---- operands
 
@@ -80,7 +80,7 @@ halfWidth = 20
 
 -- "0A settle, 0B derive: two halves, delivering first"
 abbrev pub orderedAt : List ℕ → Halves
-orderedAt o = Ordered (halfAt o 0) (halfAt o halfWidth)
+orderedAt o = ordered (halfAt o 0) (halfAt o halfWidth)
 
 -- "one byte before each half"
 abbrev pub sidedHalfAt : List ℕ → ℕ → SidedHalf
@@ -88,7 +88,7 @@ sidedHalfAt o at = record { side = numberAt o at 1; half = halfAt o (at + 1) }
 
 -- "0C (settle) and 0D (derive) are 0A and 0B with one byte before each half" (02)
 abbrev pub sidedAt : List ℕ → Halves
-sidedAt o = Sided (sidedHalfAt o 0) (sidedHalfAt o (halfWidth + 1))
+sidedAt o = sided (sidedHalfAt o 0) (sidedHalfAt o (halfWidth + 1))
 
 -- the step list that the program lends
 abbrev pub blankStep : Step

@@ -44,8 +44,8 @@ infix 70 _when_
 abbrev pub _when_ : ℕ → Bool → Condition
 n when b = record { number = n; holds = b }
 
--- The first number that applies is given: conditions are listed in the order of places, as "just before 12" (document 02) wants a 23, and 0 says that
--- none applies. Among the numbers of document 01 the first is "The lowest number that applies"
+-- the number of the first condition that holds, 0 where none does. Conditions are listed in the order of places; document 01's "The lowest number that
+-- applies" is the first of them
 abbrev pub firstOf : List Condition → ℕ
 firstOf [] = 0
 firstOf (c ∷ cs) = cond (c .holds) (c .number) (firstOf cs)

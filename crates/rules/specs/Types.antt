@@ -12,8 +12,6 @@ pub use Rattle.rules.specs.declared.LinkTable.{LinkTable}
 pub use Rattle.rules.specs.declared.Directory.{Directory}
 pub use Rattle.rules.specs.declared.Half.{Half}
 pub use Rattle.rules.specs.declared.SidedHalf.{SidedHalf}
-pub use Rattle.rules.specs.declared.Halves.{Halves}
-pub use Rattle.rules.specs.declared.Halves.the-variants.{Ordered, Sided}
 pub use Rattle.rules.specs.declared.Step.{Step}
 pub use Rattle.rules.specs.declared.Units.{Units}
 pub use Rattle.rules.specs.declared.Cents.{Cents}

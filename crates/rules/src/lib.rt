@@ -132,12 +132,6 @@ pub struct SidedHalf {
     pub half: Half,
 }
 
-// Two halves as a call is given them: delivering first, or each with its side, in either order.
-pub enum Halves {
-    Ordered(Half, Half),
-    Sided(SidedHalf, SidedHalf),
-}
-
 // One step of a chain: the CSD, the account debited and the account credited in its books.
 pub struct Step {
     pub csd: u8,

@@ -8,7 +8,6 @@ use Prim.Native.Nat.{ℕ, zero, suc, _+_, _*_, _<_, _≤_}
 use native.Mathlib.Omega.{arith}
 use lib.ListN.{length, take, drop, length-take}
 use lib.Seq.{take-append-seam}
-use Rattle.rules.specs.declared.Halves.{Halves}
 use Rattle.rules.specs.declared.Step.{Step}
 use Rattle.rules.specs.declared.Answer.{Answer}
 use Rattle.rules.specs.declared.Answer.the-variants.{Accepted, Booked, Chained, Refused}
@@ -16,7 +15,7 @@ use Rattle.rules.specs.Tests.{firstOf}
 use Rattle.rules.specs.Directory.{Rows, rowsOf}
 use Rattle.rules.specs.Lookups.{ask}
 use Rattle.rules.specs.Chain.{chained, stepsOf, chainConditions, stepLimit}
-use Rattle.rules.specs.Calls.{Store, Call, enter, move, pay, settle, derive, outcome, desk, deskConditions, deriveConditions, bookConditions, delivering, receiving, sideUnknown, sameSide, halvesConditions, halvesChain, success, lentSteps, written, writtenFor, countOf, numberOf, isAccepted}
+use Rattle.rules.specs.Calls.{Halves, Store, Call, enter, move, pay, settle, derive, outcome, desk, deskConditions, deriveConditions, bookConditions, delivering, receiving, sideUnknown, sameSide, halvesConditions, halvesChain, success, lentSteps, written, writtenFor, countOf, numberOf, isAccepted}
 use Rattle.rules.specs.Stream.{stepLine, said, widthOf, callOf, programSteps}
 use Rattle.rules.proofs.Basics.{Quiet}
 use Rattle.rules.proofs.Facts.{Facts}

@@ -9,10 +9,9 @@ use native.Mathlib.Decide.{ℕ-discrete}
 use native.Mathlib.Omega.{arith}
 use lib.Dec.{eqb, leb}
 use lib.ListN.{length, getElem?}
-use Rattle.rules.specs.declared.Halves.{Halves}
 use Rattle.rules.specs.Entries.{Row}
 use Rattle.rules.specs.Booking.{Way, positionCount, cashCount}
-use Rattle.rules.specs.Calls.{Store, Call, enter, move, pay, settle, derive, misfit}
+use Rattle.rules.specs.Calls.{Halves, Store, Call, enter, move, pay, settle, derive, misfit}
 use Rattle.rules.specs.Stream.{widths, widthOf, callOf, orderedAt, sidedAt, programSteps}
 use Rattle.rules.proofs.Basics.{and-both, eqb-is, eqb-true, eqb-not, eqb-false, leb-is}
 use Rattle.rules.proofs.Running.{Ready}

@@ -9,14 +9,13 @@ use native.Mathlib.Omega.{arith}
 use lib.IntN.{ℤ, pos, _+ℤ_, _-ℤ_, +ℤ-idr}
 use lib.ListN.{getD}
 use Rattle.rules.specs.declared.Half.{Half}
-use Rattle.rules.specs.declared.Halves.{Halves}
 use Rattle.rules.specs.declared.Step.{Step}
 use Rattle.rules.specs.Tests.{_when_}
 use Rattle.rules.specs.Directory.{Rows, rowsOf, securityLimit}
 use Rattle.rules.specs.Lookups.{homeOf, ask}
 use Rattle.rules.specs.Chain.{stepsOf, chainConditions}
 use Rattle.rules.specs.Booking.{Way, positionCount, cashCount, beyond, position, balance, heldIn, cashOn, moveStep, moveBy, moveChain, payment, cashBeyond, stepBeyond, unitsBeyond, unitsShort}
-use Rattle.rules.specs.Calls.{Store, Call, enter, move, pay, settle, derive, desk, deskConditions, zeros, emptyStore, isAccepted}
+use Rattle.rules.specs.Calls.{Halves, Store, Call, enter, move, pay, settle, derive, desk, deskConditions, zeros, emptyStore, isAccepted}
 use Rattle.rules.specs.Demands.{MovedUnits, MovedCents}
 use Rattle.rules.proofs.Basics.{or-none, any-none, Quiet}
 use Rattle.rules.proofs.Bookings.{Fate, spared, taken, handed, fate}

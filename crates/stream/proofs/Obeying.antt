@@ -8,14 +8,13 @@ use lib.ListN.{length, take, drop}
 use lib.Seq.{take-append-seam}
 use Rattle.rules.specs.declared.Answer.{Answer}
 use Rattle.rules.specs.declared.Entered.{Entered}
-use Rattle.rules.specs.declared.Halves.{Halves}
 use Rattle.rules.specs.declared.Step.{Step}
 use Rattle.rules.specs.Tests.{firstOf}
 use Rattle.rules.specs.Directory.{rowsOf}
 use Rattle.rules.specs.Entries.{Row, rowConditions}
 use Rattle.rules.specs.Lookups.{ask}
 use Rattle.rules.specs.Booking.{Way}
-use Rattle.rules.specs.Calls.{Store, Call, enter, move, pay, settle, derive, Outcome, outcome, success, core, coreConditions, countOf, written}
+use Rattle.rules.specs.Calls.{Halves, delivering, receiving, sideUnknown, sameSide, Store, Call, enter, move, pay, settle, derive, Outcome, outcome, success, core, coreConditions, countOf, written}
 use Rattle.rules.specs.Stream.{programSteps}
 use Rattle.index.specs.Asked.{asked}
 use Rattle.index.proofs.Answers.{answers}
@@ -111,10 +110,10 @@ shown m n xs lent e =
     e ∙ sym (rw k (take-append-seam xs (drop (length xs) lent)))
 
 module _ (hs : Halves) (n l m : List ℕ) (r : Answer) (same : length m ≡ length l) (b : List ℕ) (p c : List ℤ) where
-  pub derive-obeys : Derives l m (asked n) hs r → Does (derive hs programSteps) (held n b p c l) r (held n b p c m)
+  pub derive-obeys : Derives l m (asked n) (delivering hs) (receiving hs) (sideUnknown hs) (sameSide hs) r → Does (derive hs programSteps) (held n b p c l) r (held n b p c m)
   derive-obeys d st i =
-      let x : DerivedIn l m (derived (ask (rowsOf (st .directory))) hs) r =
-      rw (derived-fits l (asked n) hs (i .long), answers n (st .directory) (i .kept .indexed)) at d in
+      let x : DerivedIn l m (derived (ask (rowsOf (st .directory))) (delivering hs) (receiving hs) (sideUnknown hs) (sameSide hs)) r =
+      rw (derived-fits l (asked n) (delivering hs) (receiving hs) (sideUnknown hs) (sameSide hs) (i .long), answers n (st .directory) (i .kept .indexed)) at d in
       rw (core-derives st hs programSteps)
       (record {
         answer = x .answer;
@@ -122,11 +121,11 @@ module _ (hs : Halves) (n l m : List ℕ) (r : Answer) (same : length m ≡ leng
         left = record { kept = i .kept; positions = i .positions; cash = i .cash; long = same ∙ i .long };
       })
 
-  pub settle-obeys : (p′ c′ : List ℤ) → Settles l m (asked n) p c hs r p′ c′ → Does (settle hs programSteps) (held n b p c l) r (held n b p′ c′ m)
+  pub settle-obeys : (p′ c′ : List ℤ) → Settles l m (asked n) p c (delivering hs) (receiving hs) (sideUnknown hs) (sameSide hs) r p′ c′ → Does (settle hs programSteps) (held n b p c l) r (held n b p′ c′ m)
   settle-obeys p′ c′ s st i =
       let k = ask (rowsOf (st .directory)) in
-      let x : SettledIn l m (derivedInto l k hs .steps) (settleOutcome k (st .positions) (st .cash) hs) r p′ c′ =
-      rw (settle-fits l (asked n) p c hs (i .long), answers n (st .directory) (i .kept .indexed), i .positions, i .cash) at s in
+      let x : SettledIn l m (derivedInto l k (delivering hs) (receiving hs) (sideUnknown hs) (sameSide hs) .steps) (settleOutcome k (st .positions) (st .cash) (delivering hs) (receiving hs) (sideUnknown hs) (sameSide hs)) r p′ c′ =
+      rw (settle-fits l (asked n) p c (delivering hs) (receiving hs) (sideUnknown hs) (sameSide hs) (i .long), answers n (st .directory) (i .kept .indexed), i .positions, i .cash) at s in
       rw (core-settles st hs programSteps)
       (record {
         answer = x .answer;

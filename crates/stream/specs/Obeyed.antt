@@ -7,8 +7,7 @@ use mathlib.Core.Option.{some}
 use lib.IntN.{ℤ}
 use lib.ListN.{length, take}
 use Rattle.rules.specs.declared.Answer.{Answer}
-use Rattle.rules.specs.declared.Halves.{Halves}
-use Rattle.rules.specs.Calls.{Store, Call, settle, derive, Outcome, core, countOf}
+use Rattle.rules.specs.Calls.{Halves, Store, Call, settle, derive, Outcome, core, countOf}
 use Rattle.rules.specs.Stream.{widthOf, programSteps}
 use Rattle.entries.specs.Entered.{Kept, Keeps}
 use Rattle.chain.specs.StepList.{stepNumbers, stepsIn}

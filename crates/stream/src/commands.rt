@@ -4,6 +4,10 @@ use booking::moves::move_securities;
 use booking::payments::move_cash;
 use booking::settling::settle;
 use chain::derivation::derive;
+use chain::halves::delivering;
+use chain::halves::receiving;
+use chain::halves::same_side;
+use chain::halves::side_unknown;
 use entries::entries::enter_account;
 use entries::entries::enter_csd;
 use entries::entries::enter_link;
@@ -12,19 +16,23 @@ use entries::entries::enter_security;
 use entries::names::NAMES;
 use index::places::INDEX;
 use rules::Answer;
-use rules::Halves;
+use rules::Half;
 use wire::operands::decode_account;
 use wire::operands::decode_csd;
+use wire::operands::decode_delivering;
+use wire::operands::decode_first;
 use wire::operands::decode_link;
 use wire::operands::decode_move;
-use wire::operands::decode_ordered;
 use wire::operands::decode_pair;
 use wire::operands::decode_payment;
+use wire::operands::decode_receiving;
+use wire::operands::decode_second;
 use wire::operands::decode_security;
-use wire::operands::decode_sided;
 ghost use mathlib.Core.List.{List};
 ghost use Prim.Native.Nat.{ℕ, _<_, _≤_};
+ghost use Rattle.rules.specs.Calls.{Halves};
 ghost use Rattle.rules.specs.Stream.{callOf};
+ghost use Rattle.chain.specs.Derivation.{Handed};
 ghost use Rattle.stream.specs.Obeyed.{keptIn, held, Does, Enters, Moves, Pays, Whole, instruction};
 
 // 01 to 05, where the operands are whole.
@@ -73,23 +81,35 @@ fn move_money(index: &[u16; INDEX], cash: &mut [i64], tag: u8, operands: &[u8]) 
     move_cash(index, cash, tag == 8, asked.account, asked.amount)
 }
 
-// Two halves settled, or their chain derived.
-fn instruct_halves(
+// Two halves settled, or their chain derived. What is asked of the sides comes last.
+fn instruct_pair(
     index: &[u16; INDEX],
     positions: &mut [i64],
     cash: &mut [i64],
     steps: &mut [u16],
     settles: bool,
-    halves: Halves,
+    delivering: Half,
+    receiving: Half,
+    unknown: bool,
+    same: bool,
 ) -> Answer
-    ensures { λ r. ⌜ ((b : List ℕ) → Does (instruction settles halves)
+    ensures { λ r. ⌜ ((hs : Halves) → Handed hs delivering receiving unknown same → (b : List ℕ) → Does (instruction settles hs)
         (held (now (index .entry)) b (now (positions .entry)) (now (cash .entry)) (now (steps .entry))) r
         (held (now (index .entry)) b (now (positions .exit)) (now (cash .exit)) (now (steps .exit)))) ⌝ }
 {
     if settles {
-        return settle(index, positions, cash, steps, halves);
+        return settle(
+            index,
+            positions,
+            cash,
+            steps,
+            delivering,
+            receiving,
+            unknown,
+            same,
+        );
     }
-    derive(index, steps, halves)
+    derive(index, steps, delivering, receiving, unknown, same)
 }
 
 // 0A and 0B, 0C and 0D.
@@ -107,11 +127,37 @@ fn instruct(
         (held (now (index .entry)) b (now (positions .exit)) (now (cash .exit)) (now (steps .exit)))) ⌝ }
 {
     if tag < 12 {
-        let ordered = decode_ordered(operands);
-        return instruct_halves(index, positions, cash, steps, tag == 10, ordered);
+        let from = decode_delivering(operands);
+        let to = decode_receiving(operands);
+        return instruct_pair(
+            index,
+            positions,
+            cash,
+            steps,
+            tag == 10,
+            from,
+            to,
+            false,
+            false,
+        );
     }
-    let sided = decode_sided(operands);
-    instruct_halves(index, positions, cash, steps, tag == 12, sided)
+    let first = decode_first(operands);
+    let second = decode_second(operands);
+    let from = delivering(first, second);
+    let to = receiving(first, second);
+    let unknown = side_unknown(first, second);
+    let same = same_side(first, second);
+    instruct_pair(
+        index,
+        positions,
+        cash,
+        steps,
+        tag == 12,
+        from,
+        to,
+        unknown,
+        same,
+    )
 }
 
 // The command `tag`, where its operands are whole.

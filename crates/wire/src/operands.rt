@@ -4,7 +4,6 @@ use rules::Account;
 use rules::BIC;
 use rules::Csd;
 use rules::Half;
-use rules::Halves;
 use rules::ISIN;
 use rules::Link;
 use rules::Pair;
@@ -14,7 +13,7 @@ ghost use mathlib.Core.Path.{_≡_};
 ghost use Prim.Native.Nat.{_+_, _^_, _≤_, _<_};
 ghost use lib.ListN.{length, getD};
 ghost use Rattle.rules.specs.Entries.{accountRow, pairRow, linkRow};
-ghost use Rattle.rules.specs.Stream.{numberAt, accountAt, pairAt, linkAt, halfAt, sidedHalfAt, orderedAt, sidedAt};
+ghost use Rattle.rules.specs.Stream.{numberAt, accountAt, pairAt, linkAt, halfWidth, halfAt, sidedHalfAt};
 ghost use Rattle.wire.specs.Operands.{paddedAt, csdIn, securityIn, moveIn, paymentIn};
 
 // The operands of 06 and 07.
@@ -237,19 +236,27 @@ fn sided_half_at(operands: &[u8], at: usize) -> SidedHalf
 }
 
 // "0A settle, 0B derive: two halves, delivering first"
-pub fn decode_ordered(operands: &[u8]) -> Halves
-    ensures { λ r. ⌜ r ≡ orderedAt (now (operands .entry)) ⌝ }
+pub fn decode_delivering(operands: &[u8]) -> Half
+    ensures { λ r. ⌜ r ≡ halfAt (now (operands .entry)) 0 ⌝ }
 {
-    let delivering = half_at(operands, 0);
-    let receiving = half_at(operands, HALF);
-    Halves::Ordered(delivering, receiving)
+    half_at(operands, 0)
+}
+
+pub fn decode_receiving(operands: &[u8]) -> Half
+    ensures { λ r. ⌜ r ≡ halfAt (now (operands .entry)) halfWidth ⌝ }
+{
+    half_at(operands, HALF)
 }
 
 // "0C (settle) and 0D (derive) are 0A and 0B with one byte before each half"
-pub fn decode_sided(operands: &[u8]) -> Halves
-    ensures { λ r. ⌜ r ≡ sidedAt (now (operands .entry)) ⌝ }
+pub fn decode_first(operands: &[u8]) -> SidedHalf
+    ensures { λ r. ⌜ r ≡ sidedHalfAt (now (operands .entry)) 0 ⌝ }
 {
-    let first = sided_half_at(operands, 0);
-    let second = sided_half_at(operands, HALF + 1);
-    Halves::Sided(first, second)
+    sided_half_at(operands, 0)
+}
+
+pub fn decode_second(operands: &[u8]) -> SidedHalf
+    ensures { λ r. ⌜ r ≡ sidedHalfAt (now (operands .entry)) (halfWidth + 1) ⌝ }
+{
+    sided_half_at(operands, HALF + 1)
 }

@@ -11,7 +11,7 @@ use Rattle.booking.proofs.settling.settle.Tie as tie
 returns : tie.Need-returns
 returns c =
     let a = c .before .before .args in
-    by-length (asked (a .index .now)) (a .positions .now) (a .cash .now) (a .halves) (a .steps .now) (c .if1 .taken)
+    by-length (asked (a .index .now)) (a .positions .now) (a .cash .now) (a .delivering) (a .receiving) (a .unknown) (a .same) (a .steps .now) (c .if1 .taken)
 
 halves-refusal-requires : tie.Need-halves-refusal-requires
 halves-refusal-requires c κs = search needs
@@ -20,14 +20,8 @@ returns-2 : tie.Need-returns-2
 returns-2 c =
     let halves = c .before in
     let a = halves .before .before .before .args in
-    by-halves (asked (a .index .now)) (a .positions .now) (a .cash .now) (a .halves) (a .steps .now) (halves .before .if1 .left)
+    by-halves (asked (a .index .now)) (a .positions .now) (a .cash .now) (a .delivering) (a .receiving) (a .unknown) (a .same) (a .steps .now) (halves .before .if1 .left)
     (halves .halves-refusal .result) (halves .halves-refusal .ensures) (c .if2 .taken)
-
-delivering-requires : tie.Need-delivering-requires
-delivering-requires c κs = search needs
-
-receiving-requires : tie.Need-receiving-requires
-receiving-requires c κs = search needs
 
 chain-of-requires : tie.Need-chain-of-requires
 chain-of-requires c κs = search needs
@@ -39,12 +33,10 @@ returns-3 : tie.Need-returns-3
 returns-3 c =
     let chain = c .before .before .before .before in
     let found = chain .chain-of in
-    let ordered = chain .before .before in
-    let halves = ordered .before .before .before in
+    let halves = chain .before .before .before in
     let a = halves .before .before .before .args in
-    let finds = rw (ordered .before .delivering .ensures, ordered .receiving .ensures) at (found .ensures) in
-    by-chain (asked (a .index .now)) (a .positions .now) (a .cash .now) (a .halves) (a .steps .now) (halves .before .if1 .left)
-    (sym (halves .halves-refusal .ensures) ∙ ordered .before .before .if2 .left) (found .last .1 .1 .1 .1 .0) (found .result) finds (c .if3 .taken)
+    by-chain (asked (a .index .now)) (a .positions .now) (a .cash .now) (a .delivering) (a .receiving) (a .unknown) (a .same) (a .steps .now) (halves .before .if1 .left)
+    (sym (halves .halves-refusal .ensures) ∙ chain .before .before .if2 .left) (found .last .1 .1 .1 .1 .0) (found .result) (found .ensures) (c .if3 .taken)
 
 judge-booking-requires : tie.Need-judge-booking-requires
 judge-booking-requires c κs = search needs
@@ -64,14 +56,11 @@ returns-4 c =
     let clear = judged .before .before .before .before in
     let chain = clear .before .before .before .before in
     let found = chain .chain-of in
-    let ordered = chain .before .before in
-    let halves = ordered .before .before .before in
+    let halves = chain .before .before .before in
     let a = halves .before .before .before .args in
-    let finds = rw (ordered .before .delivering .ensures, ordered .receiving .ensures) at (found .ensures) in
-    let judges = rw (ordered .before .delivering .ensures, ordered .receiving .ensures) at (judged .judge-booking .ensures) in
-    by-booking (asked (a .index .now)) (a .positions .now) (a .cash .now) (a .halves) (a .steps .now) (halves .before .if1 .left)
-    (sym (halves .halves-refusal .ensures) ∙ ordered .before .before .if2 .left) (found .last .1 .1 .1 .1 .0) (found .result) finds (clear .if3 .left)
-    (judged .judge-booking .result) judges (c .if4 .taken)
+    by-booking (asked (a .index .now)) (a .positions .now) (a .cash .now) (a .delivering) (a .receiving) (a .unknown) (a .same) (a .steps .now) (halves .before .if1 .left)
+    (sym (halves .halves-refusal .ensures) ∙ chain .before .before .if2 .left) (found .last .1 .1 .1 .1 .0) (found .result) (found .ensures) (clear .if3 .left)
+    (judged .judge-booking .result) (judged .judge-booking .ensures) (c .if4 .taken)
 
 book-steps-requires : tie.Need-book-steps-requires
 book-steps-requires c κs =
@@ -79,15 +68,13 @@ book-steps-requires c κs =
     let judged = passed .before in
     let chain = judged .before .before .before .before .before .before .before .before in
     let found = chain .chain-of in
-    let ordered = chain .before .before in
-    let halves = ordered .before .before .before in
+    let halves = chain .before .before .before in
     let a = halves .before .before .before .args in
     let k = asked (a .index .now) in
-    let judges = rw (ordered .before .delivering .ensures, ordered .receiving .ensures) at (judged .judge-booking .ensures) in
-    let ranged = halves-ranged k (a .halves) (sym (halves .halves-refusal .ensures) ∙ ordered .before .before .if2 .left) in
-    let passes = booking-open k (a .positions .now) (a .cash .now) (a .halves) (stepsIn (found .last .1 .1 .1 .1 .0) (found .result .count))
-    (sym judges ∙ passed .if4 .left) in
-    rw (ordered .before .delivering .ensures) (ranged .0, found .ensures .few, passes .0)
+    let ranged = halves-ranged k (a .delivering) (a .receiving) (a .unknown) (a .same) (sym (halves .halves-refusal .ensures) ∙ chain .before .before .if2 .left) in
+    let passes = booking-open k (a .positions .now) (a .cash .now) (a .delivering) (a .receiving) (a .unknown) (a .same) (stepsIn (found .last .1 .1 .1 .1 .0) (found .result .count))
+    (sym (judged .judge-booking .ensures) ∙ passed .if4 .left) in
+    (ranged .0, found .ensures .few, passes .0)
 
 pay-requires : tie.Need-pay-requires
 pay-requires c κs =
@@ -95,15 +82,13 @@ pay-requires c κs =
     let judged = passed .before in
     let chain = judged .before .before .before .before .before .before .before .before in
     let found = chain .chain-of in
-    let ordered = chain .before .before in
-    let halves = ordered .before .before .before in
+    let halves = chain .before .before .before in
     let a = halves .before .before .before .args in
     let k = asked (a .index .now) in
-    let judges = rw (ordered .before .delivering .ensures, ordered .receiving .ensures) at (judged .judge-booking .ensures) in
-    let ranged = halves-ranged k (a .halves) (sym (halves .halves-refusal .ensures) ∙ ordered .before .before .if2 .left) in
-    let passes = booking-open k (a .positions .now) (a .cash .now) (a .halves) (stepsIn (found .last .1 .1 .1 .1 .0) (found .result .count))
-    (sym judges ∙ passed .if4 .left) in
-    rw (ordered .before .delivering .ensures, ordered .receiving .ensures) (ranged .1, passes .1)
+    let ranged = halves-ranged k (a .delivering) (a .receiving) (a .unknown) (a .same) (sym (halves .halves-refusal .ensures) ∙ chain .before .before .if2 .left) in
+    let passes = booking-open k (a .positions .now) (a .cash .now) (a .delivering) (a .receiving) (a .unknown) (a .same) (stepsIn (found .last .1 .1 .1 .1 .0) (found .result .count))
+    (sym (judged .judge-booking .ensures) ∙ passed .if4 .left) in
+    (ranged .1, passes .1)
 
 same-length-5 : tie.Need-same-length-5
 same-length-5 c = search needs
@@ -123,16 +108,12 @@ returns-5 c =
     let clear = judged .before .before .before .before in
     let chain = clear .before .before .before .before in
     let found = chain .chain-of in
-    let ordered = chain .before .before in
-    let halves = ordered .before .before .before in
+    let halves = chain .before .before .before in
     let a = halves .before .before .before .args in
-    let finds = rw (ordered .before .delivering .ensures, ordered .receiving .ensures) at (found .ensures) in
-    let judges = rw (ordered .before .delivering .ensures, ordered .receiving .ensures) at (judged .judge-booking .ensures) in
-    done (asked (a .index .now)) (a .positions .now) (a .cash .now) (a .halves) (a .steps .now) (halves .before .if1 .left)
-    (sym (halves .halves-refusal .ensures) ∙ ordered .before .before .if2 .left) (found .last .1 .1 .1 .1 .0) (found .result) finds (clear .if3 .left)
-    (judged .judge-booking .result) judges (passed .if4 .left) (booked .book-steps .last .0) (paid .pay .last .0)
-    (rw (ordered .before .delivering .ensures) at (booked .book-steps .ensures))
-    (rw (ordered .before .delivering .ensures, ordered .receiving .ensures) at (paid .pay .ensures))
+    done (asked (a .index .now)) (a .positions .now) (a .cash .now) (a .delivering) (a .receiving) (a .unknown) (a .same) (a .steps .now) (halves .before .if1 .left)
+    (sym (halves .halves-refusal .ensures) ∙ chain .before .before .if2 .left) (found .last .1 .1 .1 .1 .0) (found .result) (found .ensures) (clear .if3 .left)
+    (judged .judge-booking .result) (judged .judge-booking .ensures) (passed .if4 .left)
+    (booked .book-steps .last .0) (paid .pay .last .0) (booked .book-steps .ensures) (paid .pay .ensures)
 
 pub settle-spec : {M : Type 1} → statement M
 settle-spec =
@@ -141,8 +122,6 @@ settle-spec =
     returns
     halves-refusal-requires
     returns-2
-    delivering-requires
-    receiving-requires
     chain-of-requires
     same-length
     returns-3

@@ -40,7 +40,7 @@ use denote.Exit.{yes}
 use Rattle.rules.specs.declared.Step.{Step}
 use Rattle.rules.specs.declared.Directory.{Directory}
 use Rattle.rules.specs.declared.Half.{Half}
-use Rattle.rules.specs.declared.Halves.the-variants.{Ordered}
+use Rattle.rules.specs.Calls.{ordered}
 use Rattle.rules.specs.declared.Reply.{Reply}
 use Rattle.rules.specs.declared.Answer.{Answer}
 use Rattle.rules.specs.Calls.{Outcome, written}
@@ -79,8 +79,8 @@ module _ {M : Type 1} (𝓤 : URA M) (H : Heap 𝓤) (A : Atoms 𝓤) (mem : Mem
   abbrev Put : Contract 𝓤
   Put = tripleOf 𝓤 H A put.signature (put.spec 𝓤 H A mem run)
 
-  said-core : (d : Directory) (n : ℕ) (h g : Half) (r : Reply) → ent 𝓤 (ensured 𝓤 H A core.ended (core.clauses 𝓤 H A mem run) tt (d, (n, (h, (g, tt)))) tt r) (fact 𝓤 (r ≡ replyOf (derivationOn d (blanks n) (Ordered h g))))
-  said-core d n h g r = exE 𝓤 _ (λ ws. snd∗ 𝓤 (sem 𝓤 H A (lasts core.ended tt (d, (n, (h, (g, tt)))) ws)) (fact 𝓤 (r ≡ replyOf (derivationOn d (blanks n) (Ordered h g)))))
+  said-core : (d : Directory) (n : ℕ) (h g : Half) (r : Reply) → ent 𝓤 (ensured 𝓤 H A core.ended (core.clauses 𝓤 H A mem run) tt (d, (n, (h, (g, tt)))) tt r) (fact 𝓤 (r ≡ replyOf (derivationOn d (blanks n) (ordered h g))))
+  said-core d n h g r = exE 𝓤 _ (λ ws. snd∗ 𝓤 (sem 𝓤 H A (lasts core.ended tt (d, (n, (h, (g, tt)))) ws)) (fact 𝓤 (r ≡ replyOf (derivationOn d (blanks n) (ordered h g)))))
 
 module _ {M : Type 1} (𝓤 : URA M) (H : Heap 𝓤) (A : Atoms 𝓤) (W : Given 𝓤 H A) (mem : Memory → SProp 𝓤) (run : Routine → Fun 𝓤) (κ : Lft) (q : Share) (d : Directory) (x : RefT (List Step)) (h g : Half) where
   abbrev ys : List Step
@@ -91,7 +91,7 @@ module _ {M : Type 1} (𝓤 : URA M) (H : Heap 𝓤) (A : Atoms 𝓤) (W : Given
 
   -- the call's outcome
   abbrev o : Outcome
-  o = derivationOn d ys (Ordered h g)
+  o = derivationOn d ys (ordered h g)
 
   -- machine values
   abbrev dv : Val
@@ -164,25 +164,25 @@ module _ {M : Type 1} (𝓤 : URA M) (H : Heap 𝓤) (A : Atoms 𝓤) (W : Given
           nothing ! $ use1 W (raw (Core 𝓤 H A mem run .pre to-core)) goes-core $
           calls-at ! fm (Core 𝓤 H A mem run) known-core to-core (and-then ! (load ! (from ! (stop !)) (look ! 16 refl)) (and-then ! (load ! (from ! (stop !)) (look ! 6 refl)) (and-then ! (load ! (from ! (stop !)) (look ! 12 refl)) (and-then ! (load ! (from ! (stop !)) (look ! 10 refl)) (no-more !))))) (λ w.
           use1 W (later (some (λ (r : Reply). (‵ ftrue ⊛ ‵ (O.the-row .own r (w ∷ []))) ⊛ raw (ensured 𝓤 H A core.ended (core.clauses 𝓤 H A mem run) tt core-args tt r)))) (id⊢ 𝓤 _) $ await ! tt $ pick ! (λ r.
-          split ! $ move ! (1 ∷ []) $ use1 W (raw (fact 𝓤 (r ≡ replyOf (derivationOn d (blanks n) (Ordered h g))))) (said-core 𝓤 H A mem run d n h g r) $ heard ! (r ≡ replyOf (derivationOn d (blanks n) (Ordered h g))) (λ e₀. split ! $ drop ! $
+          split ! $ move ! (1 ∷ []) $ use1 W (raw (fact 𝓤 (r ≡ replyOf (derivationOn d (blanks n) (ordered h g))))) (said-core 𝓤 H A mem run d n h g r) $ heard ! (r ≡ replyOf (derivationOn d (blanks n) (ordered h g))) (λ e₀. split ! $ drop ! $
           peeks ! O.the-row (Is O.the-row) (shows 𝓤 H A O.the-row) r (w ∷ []) (λ is.
           land ! (from ! (stop !)) (init ! 8 refl (LL.lawful O.the-type O′.the-laws 𝓤 H A W .typed r _ is .0)) $ drop ! $
           -- [what steps owns; _8; …; .. ; the token]
           assigns ! (addr ! (from ! (fld ! refl (hop ! (look-in ! 13 (sub ! 0 refl (whole !))) (stop !))))) (from ! (stop !)) (init ! 3 refl (tt, tt)) $
           assigns ! (agg ! (and-then ! (load ! (from ! (stop !)) (look ! 3 refl)) (and-then ! (load ! (from ! (fld ! refl (stop !))) (look-in ! 13 (sub ! 1 refl (whole !)))) (no-more !)))) (from ! (stop !)) (init ! 1 refl (tt, (tt, (record { fits = room .0 }, tt)))) $
           -- `finish`: [the token; what steps owns; _8; …]
-          move ! (19 ∷ 0 ∷ []) $ use2 W (raw (Put 𝓤 H A mem run .pre (to-put r w))) (goes-put r (derivation-serves d ys (Ordered h g) r e₀) w is) $
+          move ! (19 ∷ 0 ∷ []) $ use2 W (raw (Put 𝓤 H A mem run .pre (to-put r w))) (goes-put r (derivation-serves d ys (ordered h g) r e₀) w is) $
           calls-at ! fm (Put 𝓤 H A mem run) known-put (to-put r w) (and-then ! (load ! (from ! (stop !)) (look ! 1 refl)) (and-then ! (load ! (from ! (stop !)) (look ! 7 refl)) (no-more !))) (λ w₁.
           use1 W (later (some (λ (r₁ : Answer). ((‵ (flft κ q) ⊛ ‵ ftrue) ⊛ ‵ (E.the-row .own r₁ (w₁ ∷ []))) ⊛ raw (ensured 𝓤 H A put.ended (put.clauses 𝓤 H A mem run) (κ, tt) (x, (r, tt)) tt r₁)))) (id⊢ 𝓤 _) $ await ! tt $ pick ! (λ r₁.
           split ! $ move ! (1 ∷ []) $ use1 W (some (λ (zs : Lasts put.ended (κ, tt) (x, (r, tt))). ‵ (lasts put.ended (κ, tt) (x, (r, tt)) zs) ⊛ raw (fact 𝓤 ((r₁ ≡ r .answer) × (zs .0 ≡ written (stepRows (r .steps)) ys))))) (id⊢ 𝓤 _) $ pick ! (λ zs.
           split ! $ move ! (1 ∷ []) $ heard ! ((r₁ ≡ r .answer) × (zs .0 ≡ written (stepRows (r .steps)) ys)) (λ e₁. fsplit ! $ fsplit ! $ move ! (1 ∷ []) $ feqL ! (λ len. move ! (1 ∷ []) $ drop ! $
           -- [steps' last list; the token and the answer; _8; …] to [the answer; the token; steps' last list; _8; …]
-          move ! (1 ∷ []) $ split ! $ move ! (1 ∷ []) $ rewrite ! 0 (λ (y : Answer). ‵ (E.the-row .own y (w₁ ∷ []))) (e₁ .0 ∙ derivation-serves d ys (Ordered h g) r e₀ .answer) refl $
+          move ! (1 ∷ []) $ split ! $ move ! (1 ∷ []) $ rewrite ! 0 (λ (y : Answer). ‵ (E.the-row .own y (w₁ ∷ []))) (e₁ .0 ∙ derivation-serves d ys (ordered h g) r e₀ .answer) refl $
           peeks ! E.the-row (Is E.the-row) (shows 𝓤 H A E.the-row) (o .answer) (w₁ ∷ []) (λ isᵉ.
           land ! (from ! (stop !)) (init ! 19 refl (EL.lawful E.the-type E′.the-laws 𝓤 H A W tt .typed (o .answer) _ isᵉ .0)) $
           returns ! (look ! 19 refl) $ forget ! 3 refl $ forget ! 5 refl $ forget ! 7 refl $ forget ! 9 refl $ forget ! 11 refl $ forget ! 13 refl $ forget ! 15 refl $ forget ! 17 refl $ forget ! 19 refl $
           move ! (19 ∷ 20 ∷ []) $ free1 ! $ move ! (17 ∷ 18 ∷ []) $ free1 ! $ move ! (15 ∷ 16 ∷ []) $ free1 ! $ move ! (13 ∷ 14 ∷ []) $ free1 ! $ move ! (11 ∷ 12 ∷ []) $ free1 ! $ move ! (9 ∷ 10 ∷ []) $ free1 ! $ move ! (7 ∷ 8 ∷ []) $ free1 ! $ move ! (5 ∷ 6 ∷ []) $ free1 ! $ move ! (3 ∷ 4 ∷ []) $ free1 ! $ free0 ! $
-          by ! (exits (zs .0) w₁ (e₁ .1 ∙ derivation-serves d ys (Ordered h g) r e₀ .steps) len))))))))))))))))))))
+          by ! (exits (zs .0) w₁ (e₁ .1 ∙ derivation-serves d ys (ordered h g) r e₀ .steps) len))))))))))))))))))))
 
 module _ {M : Type 1} (𝓤 : URA M) (H : Heap 𝓤) (A : Atoms 𝓤) (W : Given 𝓤 H A) (mem : Memory → SProp 𝓤) (run : Routine → Fun 𝓤) where
   derive-walks : (C : Calls 𝓤 H) (Λ : Loops 𝓤 H) → FmC 𝓤 H (W .laws) C → Triple 𝓤 (C #desk·chaining·derive-reply) (Core 𝓤 H A mem run) → Triple 𝓤 (C #desk·chaining·finish) (Put 𝓤 H A mem run)

@@ -1,11 +1,11 @@
 -- 1280 and 2 by the tests; then what the derivation answers and leaves.
-use mathlib.Core.Path.{_≡_, sym, ap}
+use mathlib.Core.Path.{_≡_, refl, sym, ap}
 use mathlib.Core.Bool.{false}
 use Prim.Native.Nat.{ℕ}
 use native.Mathlib.Omega.{arith}
 use lib.ListN.{take}
 use lib.Seq.{length-take-le}
-use Rattle.probe.specs.Exports.{fits}
+use Rattle.probe.specs.Exports.{fits, halvesIn}
 use Rattle.probe.proofs.Exported.{no-counts, no-rows, derive-cut, derived}
 use borrow.Author.Needs.{needs}
 use Rattle.probe.proofs.calls.derive.Statement.{statement}
@@ -40,17 +40,14 @@ returns-3 c =
 read-directory-requires : tie.Need-read-directory-requires
 read-directory-requires c κs = search needs
 
-slice-aggregate-halves-in : tie.Need-slice-aggregate-halves-in
-slice-aggregate-halves-in c =
+slice-aggregate-derived : tie.Need-slice-aggregate-derived
+slice-aggregate-derived c =
     let w = c .before .before .before in
     let a = w .before .before .before .before .before .before .before .args in
     sym (length-take-le (w .width .result) (a .bytes .now) (omega (arith, c .before .before .if3 .left)))
 
-halves-in-requires : tie.Need-halves-in-requires
-halves-in-requires c κs = search needs
-
-derive-halves-requires : tie.Need-derive-halves-requires
-derive-halves-requires c κs = search needs
+derived-requires : tie.Need-derived-requires
+derived-requires c κs = search needs
 
 replied-requires : tie.Need-replied-requires
 replied-requires c κs = search needs
@@ -61,15 +58,14 @@ same-length c = search needs
 returns-4 : tie.Need-returns-4
 returns-4 c =
     let w = c .before .before .replied in
-    let r = c .before .before .before .before .derive-halves in
-    let h = c .before .before .before .before .before in
-    let n = h .before .before .before .before in
+    let r = c .before .before .before .before .derived in
+    let d = c .before .before .before .before .before .before .read-directory in
+    let n = c .before .before .before .before .before .before .before .before in
     let x = n .before in
     let s = x .before .before .before .before .before .before in
     let a = s .args in
-    let d = h .before .before .read-directory in
     derived (a .counts .now) (a .rows .now) (omega (arith, x .before .if1 .left)) (omega (arith, x .if2 .left)) (d .result) (d .ensures) (a .tag) (a .bytes .now) (a .steps .now)
-    (omega (arith, h .before .before .before .if3 .left, n .width .ensures)) _ (ap (λ (m : ℕ). take m (a .bytes .now)) (n .width .ensures)) (h .halves-in .result) (h .halves-in .ensures)
+    (omega (arith, c .before .before .before .before .before .before .before .if3 .left, n .width .ensures)) _ (ap (λ (m : ℕ). take m (a .bytes .now)) (n .width .ensures)) (halvesIn (a .tag) (take (n .width .result) (a .bytes .now))) refl
     (r .result) (w .result) (w .last .0) (w .ensures) (s .pre) (r .ensures)
 
 pub derive-spec : {M : Type 1} → statement M
@@ -82,9 +78,8 @@ derive-spec =
     code-of-requires
     returns-3
     read-directory-requires
-    slice-aggregate-halves-in
-    halves-in-requires
-    derive-halves-requires
+    slice-aggregate-derived
+    derived-requires
     replied-requires
     same-length
     returns-4)

@@ -1,11 +1,11 @@
 -- 1280 and 2 by the tests; then what the settlement answers and leaves.
-use mathlib.Core.Path.{_≡_, sym, ap}
+use mathlib.Core.Path.{_≡_, refl, sym, ap}
 use mathlib.Core.Bool.{false}
 use Prim.Native.Nat.{ℕ}
 use native.Mathlib.Omega.{arith}
 use lib.ListN.{take}
 use lib.Seq.{length-take-le}
-use Rattle.probe.specs.Exports.{fits}
+use Rattle.probe.specs.Exports.{fits, halvesIn}
 use Rattle.probe.proofs.Exported.{no-counts, no-rows, settle-cut, settled}
 use borrow.Author.Needs.{needs}
 use Rattle.probe.proofs.calls.settle.Statement.{statement}
@@ -40,17 +40,14 @@ returns-3 c =
 read-directory-requires : tie.Need-read-directory-requires
 read-directory-requires c κs = search needs
 
-slice-aggregate-halves-in : tie.Need-slice-aggregate-halves-in
-slice-aggregate-halves-in c =
-    let w = c .before .before .before in
+slice-aggregate-settled : tie.Need-slice-aggregate-settled
+slice-aggregate-settled c =
+    let w = c .before .before .before .before .before in
     let a = w .before .before .before .before .before .before .before .args in
-    sym (length-take-le (w .width .result) (a .bytes .now) (omega (arith, c .before .before .if3 .left)))
+    sym (length-take-le (w .width .result) (a .bytes .now) (omega (arith, c .before .before .before .before .if3 .left)))
 
-halves-in-requires : tie.Need-halves-in-requires
-halves-in-requires c κs = search needs
-
-settle-halves-requires : tie.Need-settle-halves-requires
-settle-halves-requires c κs = search needs
+settled-requires : tie.Need-settled-requires
+settled-requires c κs = search needs
 
 replied-requires : tie.Need-replied-requires
 replied-requires c κs = search needs
@@ -67,15 +64,14 @@ same-length-3 c = search needs
 returns-4 : tie.Need-returns-4
 returns-4 c =
     let w = c .before .before .replied in
-    let r = c .before .before .before .before .before .before .settle-halves in
-    let h = c .before .before .before .before .before .before .before .before .before in
-    let n = h .before .before .before .before in
+    let r = c .before .before .before .before .before .before .settled in
+    let d = c .before .before .before .before .before .before .before .before .before .before .read-directory in
+    let n = c .before .before .before .before .before .before .before .before .before .before .before .before in
     let x = n .before in
     let s = x .before .before .before .before .before .before in
     let a = s .args in
-    let d = h .before .before .read-directory in
     settled (a .counts .now) (a .rows .now) (omega (arith, x .before .if1 .left)) (omega (arith, x .if2 .left)) (d .result) (d .ensures) (a .tag) (a .bytes .now) (a .steps .now)
-    (omega (arith, h .before .before .before .if3 .left, n .width .ensures)) _ (ap (λ (m : ℕ). take m (a .bytes .now)) (n .width .ensures)) (h .halves-in .result) (h .halves-in .ensures)
+    (omega (arith, c .before .before .before .before .before .before .before .before .before .before .before .if3 .left, n .width .ensures)) _ (ap (λ (m : ℕ). take m (a .bytes .now)) (n .width .ensures)) (halvesIn (a .tag) (take (n .width .result) (a .bytes .now))) refl
     (r .result) (w .result) (w .last .0) (w .ensures) (s .pre) (a .positions .now) (a .cash .now) (r .last .1 .0) (r .last .1 .1 .0) (r .ensures)
 
 pub settle-spec : {M : Type 1} → statement M
@@ -88,9 +84,8 @@ settle-spec =
     code-of-requires
     returns-3
     read-directory-requires
-    slice-aggregate-halves-in
-    halves-in-requires
-    settle-halves-requires
+    slice-aggregate-settled
+    settled-requires
     replied-requires
     same-length
     same-length-2

@@ -1,9 +1,11 @@
--- `stream::commands::instruct_halves` meets its contract: settled or derived, as the flag says. Assumes nothing.
+-- `stream::commands::instruct_pair` meets its contract: settled or derived, as the flag says. Assumes nothing.
 use denote.Ref.{now}
+use Rattle.chain.proofs.Deriving.{handed-derives}
+use Rattle.booking.proofs.Settled.{handed-settles}
 use Rattle.stream.proofs.Obeying.{settle-obeys, derive-obeys}
 use borrow.Author.Needs.{needs}
-use Rattle.stream.proofs.commands.instruct_halves.Statement.{statement}
-use Rattle.stream.proofs.commands.instruct_halves.Tie as tie
+use Rattle.stream.proofs.commands.instruct_pair.Statement.{statement}
+use Rattle.stream.proofs.commands.instruct_pair.Tie as tie
 
 settle-requires : tie.Need-settle-requires
 settle-requires c κs = search needs
@@ -22,7 +24,8 @@ returns c =
     let p = c .before .before .before .before .before .before .before .before in
     let a = p .before .before .args in
     rw (p .if1 .taken)
-    (λ names. settle-obeys _ (now (a .index)) (now (a .steps)) _ _ (same-length-3 c) names (now (a .positions)) (now (a .cash)) _ _ (c .before .before .before .before .settle .ensures))
+    (λ hs handed names. settle-obeys hs (now (a .index)) (now (a .steps)) _ _ (same-length-3 c) names (now (a .positions)) (now (a .cash)) _ _
+    (handed-settles handed _ _ _ _ _ _ _ _ (c .before .before .before .before .settle .ensures)))
 
 derive-requires : tie.Need-derive-requires
 derive-requires c κs = search needs
@@ -35,10 +38,11 @@ returns-2 c =
     let p = c .before .before .before .before in
     let a = p .before .before .args in
     rw (p .if1 .left)
-    (λ names. derive-obeys _ (now (a .index)) (now (a .steps)) _ _ (same-length-4 c) names (now (a .positions)) (now (a .cash)) (c .before .before .derive .ensures))
+    (λ hs handed names. derive-obeys hs (now (a .index)) (now (a .steps)) _ _ (same-length-4 c) names (now (a .positions)) (now (a .cash))
+    (handed-derives handed _ _ _ _ (c .before .before .derive .ensures)))
 
-pub instruct-halves-spec : {M : Type 1} → statement M
-instruct-halves-spec =
+pub instruct-pair-spec : {M : Type 1} → statement M
+instruct-pair-spec =
     tie.close
     (tie.spec
     settle-requires

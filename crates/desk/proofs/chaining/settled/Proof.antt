@@ -2,10 +2,11 @@
 use borrow.Author.Needs.{needs}
 use mathlib.Core.Path.{_∙_}
 use denote.Ref.{now}
+use Rattle.booking.proofs.Settled.{handed-settles}
 use Rattle.desk.proofs.Admitted.{nothing-kept}
 use Rattle.desk.proofs.Decided.{settlement-refused, settlement-few, settlement-passed}
-use Rattle.desk.proofs.chaining.settle_halves.Statement.{statement}
-use Rattle.desk.proofs.chaining.settle_halves.Tie as tie
+use Rattle.desk.proofs.chaining.settled.Statement.{statement}
+use Rattle.desk.proofs.chaining.settled.Tie as tie
 
 early-refusal-requires : tie.Need-early-refusal-requires
 early-refusal-requires c κs = nothing-kept
@@ -17,7 +18,8 @@ returns : tie.Need-returns
 returns c =
     let e = c .before in
     let a = e .before .before .before .before .args in
-    let s = settlement-refused (a .directory) (now (a .positions)) (now (a .cash)) (a .lent) (a .halves) _ _ (e .before .early-refusal .ensures) (e .if1 .taken) in
+    λ hs handed.
+    let s = settlement-refused (a .directory) (now (a .positions)) (now (a .cash)) (a .lent) hs _ _ (e .before .early-refusal .ensures) (e .if1 .taken) in
     (c .refused .ensures ∙ s .0, s .1, s .2)
 
 slice-aggregate-settle : tie.Need-slice-aggregate-settle
@@ -33,8 +35,9 @@ replied-requires : tie.Need-replied-requires
 replied-requires c κs =
     let m = c .before .before .before .before in
     let e = m .before .before .before .before .before in
-    let a = e .before .before .before .before .args in
-    settlement-few (a .directory) (now (a .positions)) (now (a .cash)) (a .lent) (a .halves) _ _ (e .before .early-refusal .ensures) (e .if1 .left) _ _ _ _ (m .settle .ensures)
+    let s = e .before .before .before .before in
+    let a = s .args in
+    settlement-few (a .directory) (now (a .positions)) (now (a .cash)) (a .lent) (s .pre .0) _ _ (e .before .early-refusal .ensures) (e .if1 .left) _ _ _ _ (handed-settles (s .pre .1) _ _ _ _ _ _ _ _ (m .settle .ensures))
 
 same-length : tie.Need-same-length
 same-length c = search needs
@@ -47,11 +50,12 @@ returns-2 c =
     let m = c .before .before .before .before .before in
     let e = m .before .before .before .before .before in
     let a = e .before .before .before .before .args in
-    let s = settlement-passed (a .directory) (now (a .positions)) (now (a .cash)) (a .lent) (a .halves) _ _ (e .before .early-refusal .ensures) (e .if1 .left) _ _ _ _ (m .settle .ensures) in
+    λ hs handed.
+    let s = settlement-passed (a .directory) (now (a .positions)) (now (a .cash)) (a .lent) hs _ _ (e .before .early-refusal .ensures) (e .if1 .left) _ _ _ _ (handed-settles handed _ _ _ _ _ _ _ _ (m .settle .ensures)) in
     (c .replied .ensures ∙ s .0, s .1, s .2)
 
-pub settle-halves-spec : {M : Type 1} → statement M
-settle-halves-spec =
+pub settled-spec : {M : Type 1} → statement M
+settled-spec =
     tie.close
     (tie.spec
     early-refusal-requires
