@@ -31,7 +31,8 @@ use Rattle.desk.proofs.Lent as Lent
 use Rattle.layout.specs.Layout.{countsLength, rowsLength, directoryIn, countsOf, bytesOf, bytesIn, bytesOfSteps, filled, withSteps, stepsPut}
 use Rattle.layout.proofs.Bytes.{fills, steps-fit}
 use Rattle.probe.specs.Codes.{misfit, codeOf, unitsCode, centsCode}
-use Rattle.probe.specs.Exports.{fits, fitsSum, isEntry, isMove, isSettlement, isDerivation, width, callIn, halvesIn, lending, stepsLent, readConditions, enteredBy, chainOf}
+use Rattle.wire.specs.Operands.{halvesIn}
+use Rattle.probe.specs.Exports.{fits, fitsSum, isEntry, isMove, isSettlement, isDerivation, width, callIn, lending, stepsLent, readConditions, enteredBy, chainOf}
 use Rattle.probe.specs.Exports.{enters, moves, settles, derives, unitsLeft, centsLeft, Enters, Moves, Settles, Derives}
 use Rattle.probe.proofs.Read.{cut-is, none-is, read-refused, read-passed, settlement-call, derivation-call}
 use Rattle.probe.proofs.Moves.{Leaves}

@@ -20,7 +20,8 @@ use Rattle.rules.proofs.Basics.{and-both, or-cases, eqb-is, leb-is, ltb-not}
 use Rattle.wire.specs.declared.commands.Width.the-variants.{Bytes, NoCommand}
 use Rattle.wire.specs.Commands.{widthIn}
 use Rattle.wire.proofs.Widths.{width-is}
-use Rattle.probe.specs.Exports.{isEntry, isMove, isSettlement, isDerivation, asked, width, halvesIn, lending, readConditions, obeyed}
+use Rattle.wire.specs.Operands.{halvesIn}
+use Rattle.probe.specs.Exports.{isEntry, isMove, isSettlement, isDerivation, asked, width, lending, readConditions, obeyed}
 
 -- ---- the two numbers
 

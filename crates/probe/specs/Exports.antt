@@ -14,9 +14,9 @@ use Rattle.rules.specs.declared.SecurityTotal.the-variants.{SumUnits, NoUnits}
 use Rattle.rules.specs.declared.CashTotal.{CashTotal}
 use Rattle.rules.specs.declared.CashTotal.the-variants.{SumCents, NoCents}
 use Rattle.rules.specs.Tests.{Condition, _when_, firstOf}
-use Rattle.rules.specs.Calls.{Halves, Store, Call, enter, move, pay, settle, derive, Outcome, outcome, deskConditions, isAccepted, countOf}
+use Rattle.rules.specs.Calls.{Store, Call, enter, move, pay, settle, derive, Outcome, outcome, deskConditions, isAccepted, countOf}
 use Rattle.rules.specs.Calls.{deskSecurityTotal, deskCashTotal}
-use Rattle.rules.specs.Stream.{widthOf, callOf, orderedAt, sidedAt}
+use Rattle.rules.specs.Stream.{widthOf, callOf}
 use Rattle.rules.specs.Outcomes.{holding, blanks}
 use Rattle.layout.specs.Layout.{countsLength, rowsLength, stepWidth, directoryIn, countsOf, bytesOf, withSteps}
 use Rattle.probe.specs.Codes.{misfit, codeOf, unitsCode, centsCode}
@@ -59,10 +59,6 @@ width tag = asked (widthOf tag)
 -- the call of a command byte; its operands are the first of the bytes
 abbrev pub callIn : ℕ → List ℕ → Call
 callIn tag o = callOf tag (take (width tag) o)
-
--- two halves as the byte has them: "delivering first" below 0C, with their sides from there on
-abbrev pub halvesIn : ℕ → List ℕ → Halves
-halvesIn tag o = cond (ltb tag 12) (orderedAt o) (sidedAt o)
 
 -- the call with the step list that it is lent
 abbrev pub lending : List Step → Call → Call

@@ -27,9 +27,10 @@ ghost use Rattle.rules.specs.Tests.{firstOf};
 ghost use Rattle.rules.specs.Calls.{desk, isAccepted};
 ghost use Rattle.rules.specs.Stream.{widthOf, callOf, transcript, Printed};
 ghost use Rattle.rules.specs.Outcomes.{holding, settlementOn, derivationOn, blanks, replyOf};
+ghost use Rattle.wire.specs.Operands.{halvesIn};
 ghost use Rattle.layout.specs.Layout.{stepsPut};
 ghost use Rattle.probe.specs.Codes.{capped, codeOf};
-ghost use Rattle.probe.specs.Exports.{isEntry, isMove, isSettlement, isDerivation, width, halvesIn, readConditions, enteredBy};
+ghost use Rattle.probe.specs.Exports.{isEntry, isMove, isSettlement, isDerivation, width, readConditions, enteredBy};
 ghost use Rattle.probe.specs.Exports.{Enters, Moves, Settles, Derives, TotalsUnits, TotalsCents};
 
 // Counts, rows or the place of a sum do not fit.

@@ -1,7 +1,7 @@
 -- The calls of the commands by kind and by byte, and the widths of their operands.
 use mathlib.Core.Path.{_≡_, refl, sym, ap, _∙_}
 use mathlib.Core.Logic.{_≢_}
-use mathlib.Core.Bool.{Bool, true, false, _&&_, cond}
+use mathlib.Core.Bool.{Bool, true, false, _&&_, _||_, cond}
 use mathlib.Core.List.{List, [], _∷_}
 use mathlib.Core.Option.{some}
 use Prim.Native.Nat.{ℕ, zero, suc, _≤_, _<_}
@@ -9,15 +9,16 @@ use native.Mathlib.Decide.{ℕ-discrete}
 use native.Mathlib.Omega.{arith}
 use lib.Dec.{eqb, leb}
 use lib.ListN.{length, getElem?}
+use borrow.Author.Tests.{le-ltb}
 use Rattle.rules.specs.Entries.{Row}
 use Rattle.rules.specs.Booking.{Way, positionCount, cashCount}
 use Rattle.rules.specs.Calls.{Halves, Store, Call, enter, move, pay, settle, derive, misfit}
-use Rattle.rules.specs.Stream.{widths, widthOf, callOf, orderedAt, sidedAt, programSteps}
+use Rattle.rules.specs.Stream.{widths, widthOf, callOf, programSteps}
 use Rattle.rules.proofs.Basics.{and-both, eqb-is, eqb-true, eqb-not, eqb-false, leb-is}
 use Rattle.rules.proofs.Running.{Ready}
 use Rattle.booking.specs.Moves.{wayOf}
-use Rattle.wire.specs.Operands.{moveIn, paymentIn}
-use Rattle.wire.proofs.Decoded.{bring-in-call, take-out-call, pay-in-call, pay-out-call, settle-call, derive-call, settle-sided-call, known-tag}
+use Rattle.wire.specs.Operands.{moveIn, paymentIn, halvesIn}
+use Rattle.wire.proofs.Decoded.{bring-in-call, take-out-call, pay-in-call, pay-out-call, known-tag}
 use Rattle.stream.specs.Obeyed.{instruction}
 
 -- ---- kinds
@@ -75,22 +76,16 @@ module _ (tag : ℕ) (o : List ℕ) where
   other : (n : ℕ) → n < tag → eqb tag n ≡ false
   other n h = eqb-false tag n (omega arith)
 
-  -- 0A and 0B
-  pub ordered-call : 10 ≤ tag → tag < 12 → callOf tag o ≡ instruction (eqb tag 10) (orderedAt o)
-  ordered-call l h = go (eqb tag 10) refl
-    where
-      go : (b : Bool) → eqb tag 10 ≡ b → callOf tag o ≡ instruction b (orderedAt o)
-      go true e = settle-call tag o (eqb-is tag 10 e)
-      go false e = let n : tag ≢ 10 = eqb-not tag 10 e in derive-call tag o (omega arith)
-
-  -- 0C and 0D; a byte above them has no call of its own
-  pub sided-call : 12 ≤ tag → callOf tag o ≡ instruction (eqb tag 12) (sidedAt o)
+  -- 0A to 0D; a byte above them has no call of its own
+  pub pair-call : 10 ≤ tag → callOf tag o ≡ instruction (eqb tag 10 || eqb tag 12) (halvesIn tag o)
   unfolding callOf
-  sided-call h = go (eqb tag 12) refl
+  pair-call h = go (ℕ-discrete tag 10) (ℕ-discrete tag 11) (ℕ-discrete tag 12)
     where
-      go : (b : Bool) → eqb tag 12 ≡ b → callOf tag o ≡ instruction b (sidedAt o)
-      go true e = settle-sided-call tag o (eqb-is tag 12 e)
-      go false e =
+      go : Dec (tag ≡ 10) → Dec (tag ≡ 11) → Dec (tag ≡ 12) → callOf tag o ≡ instruction (eqb tag 10 || eqb tag 12) (halvesIn tag o)
+      go (yes k) b c = rw k
+      go (no a) (yes k) c = rw k
+      go (no a) (no b) (yes k) = rw k
+      go (no a) (no b) (no c) =
           rw (
             other 1 (omega arith),
             other 2 (omega arith),
@@ -101,9 +96,10 @@ module _ (tag : ℕ) (o : List ℕ) where
             other 7 (omega arith),
             other 8 (omega arith),
             other 9 (omega arith),
-            other 10 (omega arith),
-            other 11 (omega arith),
-            e,
+            other 10 (omega (arith, a)),
+            other 11 (omega (arith, a, b)),
+            other 12 (omega (arith, a, b, c)),
+            le-ltb tag 12 (omega (arith, a, b)),
           )
 
 -- ---- widths

@@ -33,6 +33,7 @@ ghost use Prim.Native.Nat.{ℕ, _<_, _≤_};
 ghost use Rattle.rules.specs.Calls.{Halves};
 ghost use Rattle.rules.specs.Stream.{callOf};
 ghost use Rattle.chain.specs.Derivation.{Handed};
+ghost use Rattle.wire.specs.Operands.{halvesIn};
 ghost use Rattle.stream.specs.Obeyed.{keptIn, held, Does, Enters, Moves, Pays, Whole, instruction};
 
 // 01 to 05, where the operands are whole.
@@ -81,6 +82,36 @@ fn move_money(index: &[u16; INDEX], cash: &mut [i64], tag: u8, operands: &[u8]) 
     move_cash(index, cash, tag == 8, asked.account, asked.amount)
 }
 
+// Two halves in order, and what is asked of their sides: whether one is unknown, and whether both are the same.
+struct Pair {
+    delivering: Half,
+    receiving: Half,
+    unknown: bool,
+    same: bool,
+}
+
+// The halves of 0A to 0D.
+fn read_pair(tag: u8, operands: &[u8]) -> Pair
+    ensures { λ r. ⌜ Handed (halvesIn tag (now (operands .entry))) (r .delivering) (r .receiving) (r .unknown) (r .same) ⌝ }
+{
+    if tag < 12 {
+        return Pair {
+            delivering: decode_delivering(operands),
+            receiving: decode_receiving(operands),
+            unknown: false,
+            same: false,
+        };
+    }
+    let first = decode_first(operands);
+    let second = decode_second(operands);
+    Pair {
+        delivering: delivering(first, second),
+        receiving: receiving(first, second),
+        unknown: side_unknown(first, second),
+        same: same_side(first, second),
+    }
+}
+
 // Two halves settled, or their chain derived. What is asked of the sides comes last.
 fn instruct_pair(
     index: &[u16; INDEX],
@@ -126,37 +157,18 @@ fn instruct(
         (held (now (index .entry)) b (now (positions .entry)) (now (cash .entry)) (now (steps .entry))) r
         (held (now (index .entry)) b (now (positions .exit)) (now (cash .exit)) (now (steps .exit)))) ⌝ }
 {
-    if tag < 12 {
-        let from = decode_delivering(operands);
-        let to = decode_receiving(operands);
-        return instruct_pair(
-            index,
-            positions,
-            cash,
-            steps,
-            tag == 10,
-            from,
-            to,
-            false,
-            false,
-        );
-    }
-    let first = decode_first(operands);
-    let second = decode_second(operands);
-    let from = delivering(first, second);
-    let to = receiving(first, second);
-    let unknown = side_unknown(first, second);
-    let same = same_side(first, second);
+    let pair = read_pair(tag, operands);
+    let settles = (tag == 10) | (tag == 12);
     instruct_pair(
         index,
         positions,
         cash,
         steps,
-        tag == 12,
-        from,
-        to,
-        unknown,
-        same,
+        settles,
+        pair.delivering,
+        pair.receiving,
+        pair.unknown,
+        pair.same,
     )
 }
 

@@ -8,8 +8,8 @@ use mathlib.Core.Option.{Option, none, some}
 use lib.ListN.{length}
 use Rattle.rules.specs.Entries.{csdRow, securityRow}
 use Rattle.rules.specs.Booking.{incoming, outgoing}
-use Rattle.rules.specs.Calls.{enter, move, pay, settle, derive}
-use Rattle.rules.specs.Stream.{widths, widthOf, callOf, csdAt, securityAt, accountAt, pairAt, linkAt, orderedAt, sidedAt, programSteps}
+use Rattle.rules.specs.Calls.{enter, move, pay}
+use Rattle.rules.specs.Stream.{widths, widthOf, callOf, csdAt, securityAt, accountAt, pairAt, linkAt}
 use Rattle.wire.specs.Operands.{csdIn, securityIn, moveIn, paymentIn}
 use Rattle.wire.proofs.Padded.{padded-is}
 use Rattle.wire.proofs.Widths.{no-entry}
@@ -60,18 +60,6 @@ module _ (tag : ℕ) (o : List ℕ) where
   pub pay-out-call : tag ≡ 9 → callOf tag o ≡ pay outgoing (paymentIn o .account) (paymentIn o .amount)
   unfolding callOf
   pay-out-call e = rw e
-
-  pub settle-call : tag ≡ 10 → callOf tag o ≡ settle (orderedAt o) programSteps
-  unfolding callOf
-  settle-call e = rw e
-
-  pub derive-call : tag ≡ 11 → callOf tag o ≡ derive (orderedAt o) programSteps
-  unfolding callOf
-  derive-call e = rw e
-
-  pub settle-sided-call : tag ≡ 12 → callOf tag o ≡ settle (sidedAt o) programSteps
-  unfolding callOf
-  settle-sided-call e = rw e
 
 -- a byte with a width is a command
 pub known-tag : (tag w : ℕ) → widthOf tag ≡ some w → (1 ≤ tag) × (tag ≤ length widths)

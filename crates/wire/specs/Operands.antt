@@ -1,11 +1,14 @@
 -- What the decoders read, on a part of any length. On a part that has all of a command's operands it is what the rules' definitions read
 -- (proofs/Decoded). Assumes nothing.
 use Prim.Native.Nat.{ℕ, zero, suc, _+_}
+use mathlib.Core.Bool.{cond}
 use mathlib.Core.List.{List, [], _∷_, _++_}
+use lib.Dec.{ltb}
 use lib.ListN.{getD}
 use Rattle.rules.specs.declared.Csd.{Csd}
 use Rattle.rules.specs.declared.Security.{Security}
-use Rattle.rules.specs.Stream.{numberAt}
+use Rattle.rules.specs.Calls.{Halves}
+use Rattle.rules.specs.Stream.{numberAt, orderedAt, sidedAt}
 use Rattle.wire.specs.declared.operands.Move.{Move}
 use Rattle.wire.specs.declared.operands.Payment.{Payment}
 
@@ -29,3 +32,7 @@ moveIn o = record { account = numberAt o 0 2; security = numberAt o 2 1; quantit
 -- "08 in, 09 out: account 2, amount 8"
 abbrev pub paymentIn : List ℕ → Payment
 paymentIn o = record { account = numberAt o 0 2; amount = numberAt o 2 8 }
+
+-- two halves as the byte has them: "delivering first" below 0C, with their sides from there on
+abbrev pub halvesIn : ℕ → List ℕ → Halves
+halvesIn tag o = cond (ltb tag 12) (orderedAt o) (sidedAt o)

@@ -5,7 +5,8 @@ use Prim.Native.Nat.{ℕ}
 use native.Mathlib.Omega.{arith}
 use lib.ListN.{take}
 use lib.Seq.{length-take-le}
-use Rattle.probe.specs.Exports.{fits, halvesIn}
+use Rattle.probe.specs.Exports.{fits}
+use Rattle.wire.specs.Operands.{halvesIn}
 use Rattle.probe.proofs.Exported.{no-counts, no-rows, derive-cut, derived}
 use borrow.Author.Needs.{needs}
 use Rattle.probe.proofs.calls.derive.Statement.{statement}
