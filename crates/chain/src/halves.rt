@@ -14,7 +14,8 @@ use rules::SidedHalf;
 ghost use mathlib.Core.Path.{_≡_};
 ghost use lib.Dec.{eqb};
 ghost use Rattle.rules.specs.Tests.{firstOf};
-ghost use Rattle.rules.specs.Calls.{deliveringSide, delivering, receiving, sideUnknown, sameSide, halfUnknown, halfOutOfRange, halvesDiffer, bothConditions, sided};
+ghost use Rattle.rules.specs.Calls.{sided, deliveringSide, delivering, receiving, sideUnknown, sameSide};
+ghost use Rattle.rules.specs.Calls.{halfUnknown, halfOutOfRange, halvesDiffer, bothConditions};
 ghost use Rattle.index.specs.Asked.{asked};
 
 // ---- two halves with their sides

@@ -4,31 +4,24 @@ use mathlib.Core.Path.{_≡_, refl, sym, ap, _∙_}
 use mathlib.Core.Logic.{_≢_}
 use mathlib.Core.Bool.{Bool, true, false, not}
 use mathlib.Core.List.{List, [], _∷_}
-use native.Mathlib.Omega.{arith}
 use Rattle.rules.specs.declared.Answer.the-variants.{Refused}
 use Rattle.rules.specs.declared.Directory.{Directory}
 use Rattle.rules.specs.Tests.{Condition, _when_, firstOf}
 use Rattle.rules.specs.Entries.{sound}
 use Rattle.rules.specs.Calls.{Store, Call, outcome, lentSteps, misfit, coreConditions, core, desk}
+use Rattle.rules.proofs.Basics.{quiet}
+use Rattle.rules.proofs.Conditions.{first-before, first-after}
 use Rattle.desk.specs.Early.{early}
 
--- the first two conditions alone, then all
-module _ (b s : Bool) (cs : List Condition) where
-  pub first-early : firstOf (3 when b ∷ 4 when s ∷ []) ≢ 0 → firstOf (3 when b ∷ 4 when s ∷ cs) ≡ firstOf (3 when b ∷ 4 when s ∷ [])
-  first-early ne = go b s ne
-    where
-      go : (b s : Bool) → firstOf (3 when b ∷ 4 when s ∷ []) ≢ 0 → firstOf (3 when b ∷ 4 when s ∷ cs) ≡ firstOf (3 when b ∷ 4 when s ∷ [])
-      go true s ne = refl
-      go false true ne = refl
-      go false false ne = absurd (ne refl)
+-- the first two conditions
+abbrev two : Bool → Bool → List Condition
+two b s = 3 when b ∷ 4 when s ∷ []
 
-  pub first-later : firstOf (3 when b ∷ 4 when s ∷ []) ≡ 0 → firstOf (3 when b ∷ 4 when s ∷ cs) ≡ firstOf cs
-  first-later e = go b s e
-    where
-      go : (b s : Bool) → firstOf (3 when b ∷ 4 when s ∷ []) ≡ 0 → firstOf (3 when b ∷ 4 when s ∷ cs) ≡ firstOf cs
-      go true s e = let z : ⊥ = omega arith in absurd z
-      go false true e = let z : ⊥ = omega arith in absurd z
-      go false false e = refl
+pub first-early : (b s : Bool) (cs : List Condition) → firstOf (two b s) ≢ 0 → firstOf (3 when b ∷ 4 when s ∷ cs) ≡ firstOf (two b s)
+first-early b s cs ne = first-before (two b s) cs ne
+
+pub first-later : (b s : Bool) (cs : List Condition) → firstOf (two b s) ≡ 0 → firstOf (3 when b ∷ 4 when s ∷ cs) ≡ firstOf cs
+first-later b s cs e = first-after (two b s) cs (quiet (two b s) refl e)
 
 pub early-unsound : (b : Bool) (d : Directory) → b ≡ false → sound d ≡ false → 4 ≡ early b d
 early-unsound b d e f = rw (e, f)

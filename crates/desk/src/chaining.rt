@@ -303,7 +303,8 @@ pub fn settle(
         ≡ settlementOn directory (now (positions .entry)) (now (cash .entry)) (now (steps .entry)) (ordered delivering receiving) .store .positions)
         × (now (cash .exit)
         ≡ settlementOn directory (now (positions .entry)) (now (cash .entry)) (now (steps .entry)) (ordered delivering receiving) .store .cash)
-        × (now (steps .exit) ≡ settlementOn directory (now (positions .entry)) (now (cash .entry)) (now (steps .entry)) (ordered delivering receiving) .steps) ⌝ }
+        × (now (steps .exit)
+        ≡ settlementOn directory (now (positions .entry)) (now (cash .entry)) (now (steps .entry)) (ordered delivering receiving) .steps) ⌝ }
 {
     let reply = settle_reply(
         directory,
@@ -326,7 +327,8 @@ pub fn settle_sided(
     second: SidedHalf,
 ) -> Answer
     ensures { λ r. ⌜ (r ≡ settlementOn directory (now (positions .entry)) (now (cash .entry)) (now (steps .entry)) (sided first second) .answer)
-        × (now (positions .exit) ≡ settlementOn directory (now (positions .entry)) (now (cash .entry)) (now (steps .entry)) (sided first second) .store .positions)
+        × (now (positions .exit)
+        ≡ settlementOn directory (now (positions .entry)) (now (cash .entry)) (now (steps .entry)) (sided first second) .store .positions)
         × (now (cash .exit) ≡ settlementOn directory (now (positions .entry)) (now (cash .entry)) (now (steps .entry)) (sided first second) .store .cash)
         × (now (steps .exit) ≡ settlementOn directory (now (positions .entry)) (now (cash .entry)) (now (steps .entry)) (sided first second) .steps) ⌝ }
 {

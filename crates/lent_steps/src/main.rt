@@ -16,6 +16,7 @@ use rules::Step;
 ghost use mathlib.Core.Path.{_≡_};
 ghost use Prim.Native.Nat.{_≤_};
 ghost use lib.ListN.{take, drop};
+ghost use Rattle.rules.specs.Calls.{ordered, sided};
 ghost use Rattle.rules.specs.Outcomes.{derivationOn, settlementOn};
 ghost use Rattle.lent_steps.specs.Lent.{size, left, backFrom};
 
@@ -63,10 +64,12 @@ fn settle(
     receiving: Half,
 ) -> Back
     requires { ⌜ lent ≤ size ⌝ }
-    ensures { λ r. ⌜ (r ≡ backFrom (settlementOn directory (now (positions .entry)) (now (cash .entry)) (take lent list) (ordered delivering receiving)) (drop lent list))
+    ensures { λ r. ⌜ (r
+        ≡ backFrom (settlementOn directory (now (positions .entry)) (now (cash .entry)) (take lent list) (ordered delivering receiving)) (drop lent list))
         × (now (positions .exit)
         ≡ settlementOn directory (now (positions .entry)) (now (cash .entry)) (take lent list) (ordered delivering receiving) .store .positions)
-        × (now (cash .exit) ≡ settlementOn directory (now (positions .entry)) (now (cash .entry)) (take lent list) (ordered delivering receiving) .store .cash) ⌝ }
+        × (now (cash .exit)
+        ≡ settlementOn directory (now (positions .entry)) (now (cash .entry)) (take lent list) (ordered delivering receiving) .store .cash) ⌝ }
 {
     let mut steps = list;
     let answer = desk::settle(

@@ -16,7 +16,8 @@ use Rattle.rules.specs.declared.Step.{Step}
 use Rattle.rules.specs.Tests.{Condition, _when_, firstOf}
 use Rattle.rules.specs.Calls.{Store, Call, settle, derive, outcome, lentSteps, deskConditions, desk}
 use Rattle.rules.specs.Stream.{widthOf, callOf}
-use Rattle.rules.proofs.Basics.{and-both, or-cases, eqb-is, leb-is, ltb-not}
+use Rattle.rules.proofs.Basics.{and-both, or-cases, eqb-is, leb-is, ltb-not, quiet}
+use Rattle.rules.proofs.Conditions.{first-before, first-after}
 use Rattle.wire.specs.declared.commands.Width.the-variants.{Bytes, NoCommand}
 use Rattle.wire.specs.Commands.{widthIn}
 use Rattle.wire.proofs.Widths.{width-is}
@@ -25,22 +26,8 @@ use Rattle.probe.specs.Exports.{isEntry, isMove, isSettlement, isDerivat
 
 -- ---- the two numbers
 
-module _ (b s : Bool) (cs : List Condition) where
-  first-early : firstOf (1 when b ∷ 2 when s ∷ []) ≢ 0 → firstOf (1 when b ∷ 2 when s ∷ cs) ≡ firstOf (1 when b ∷ 2 when s ∷ [])
-  first-early ne = go b s ne
-    where
-      go : (b s : Bool) → firstOf (1 when b ∷ 2 when s ∷ []) ≢ 0 → firstOf (1 when b ∷ 2 when s ∷ cs) ≡ firstOf (1 when b ∷ 2 when s ∷ [])
-      go true s ne = refl
-      go false true ne = refl
-      go false false ne = absurd (ne refl)
-
-  first-later : firstOf (1 when b ∷ 2 when s ∷ []) ≡ 0 → firstOf (1 when b ∷ 2 when s ∷ cs) ≡ firstOf cs
-  first-later e = go b s e
-    where
-      go : (b s : Bool) → firstOf (1 when b ∷ 2 when s ∷ []) ≡ 0 → firstOf (1 when b ∷ 2 when s ∷ cs) ≡ firstOf cs
-      go true s e = let z : ⊥ = omega arith in absurd z
-      go false true e = let z : ⊥ = omega arith in absurd z
-      go false false e = refl
+abbrev two : Bool → Bool → List Condition
+two b s = 1 when b ∷ 2 when s ∷ []
 
 clear : (known s : Bool) → firstOf (1 when not known ∷ 2 when s ∷ []) ≡ 0 → (known ≡ true) × (s ≡ false)
 clear false s e = let z : ⊥ = omega arith in absurd z
@@ -72,11 +59,11 @@ module _ (known : Bool) (tag : ℕ) (o : List ℕ) where
       pub read-refused : n ≢ 0 → obeyed known tag o k st ≡ record { answer = Refused n; store = st; steps = lentSteps k }
       unfolding obeyed
       read-refused ne =
-          ap (λ (m : ℕ). outcome m k st) (first-early (not known) (ltb (length o) (width tag)) (deskConditions k st) (λ z. ne (e ∙ z)) ∙ sym e) ∙ refused-by k st n ne
+          ap (λ (m : ℕ). outcome m k st) (first-before (two (not known) (ltb (length o) (width tag))) (deskConditions k st) (λ z. ne (e ∙ z)) ∙ sym e) ∙ refused-by k st n ne
 
       pub read-passed : n ≡ 0 → obeyed known tag o k st ≡ desk k st
       unfolding obeyed desk
-      read-passed z = ap (λ (m : ℕ). outcome m k st) (first-later (not known) (ltb (length o) (width tag)) (deskConditions k st) (sym e ∙ z))
+      read-passed z = ap (λ (m : ℕ). outcome m k st) (first-after (two (not known) (ltb (length o) (width tag))) (deskConditions k st) (quiet (two (not known) (ltb (length o) (width tag))) refl (sym e ∙ z)))
 
 -- ---- widths
 
