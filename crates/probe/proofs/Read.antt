@@ -39,9 +39,6 @@ refused-by k st zero ne = absurd (ne refl)
 refused-by k st (suc n) ne = refl
 
 module _ (known : Bool) (tag : ℕ) (o : List ℕ) where
-  pub unknown-is : known ≡ false → 1 ≡ firstOf (readConditions known tag o)
-  unknown-is e = rw e
-
   pub cut-is : known ≡ true → length o < width tag → 2 ≡ firstOf (readConditions known tag o)
   cut-is e h = rw (e, lt-ltb (length o) (width tag) h)
 

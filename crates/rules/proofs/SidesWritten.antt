@@ -12,7 +12,7 @@ use Rattle.rules.specs.Directory.{rowsOf}
 use Rattle.rules.specs.Entries.{sound}
 use Rattle.rules.specs.Lookups.{Lookups, ask}
 use Rattle.rules.specs.Chain.{stepsOf, chainConditions}
-use Rattle.rules.specs.Calls.{Halves, ordered, sided, Store, Call, settle, derive, Outcome, outcome, desk, deskConditions, misfit, deliveringSide, receivingSide, delivering, receiving, sideUnknown, sameSide, halfUnknown, halfOutOfRange, bothConditions, halvesConditions, halvesChain, bookConditions}
+use Rattle.rules.specs.Calls.{Halves, ordered, sided, Store, Call, settle, derive, outcome, desk, deskConditions, misfit, deliveringSide, receivingSide, delivering, receiving, sideUnknown, sameSide, halfUnknown, halfOutOfRange, bothConditions, halvesConditions, halvesChain, bookConditions}
 use Rattle.rules.specs.Refusals
 use Rattle.rules.specs.Refusals.{Delivers}
 use Rattle.rules.specs.Requests.{SideInTheHalf}

@@ -3,7 +3,7 @@ use mathlib.Core.Path.{_≡_}
 use mathlib.Core.List.{List, [], _∷_, _++_, map}
 use Prim.Native.Nat.{ℕ}
 use Rattle.rules.specs.Types.{Half, SidedHalf, Step}
-use Rattle.rules.specs.Calls.{Halves, ordered, sided, Store, settle, derive, desk}
+use Rattle.rules.specs.Calls.{ordered, sided, Store, settle, derive, desk}
 use Rattle.rules.specs.Refusals.{Delivers}
 use Rattle.rules.specs.Stream.{bytes, transcript}
 use Rattle.rules.specs.Examples.{sampleStart, sampleDelivering, sampleReceiving, sampleOutput, outputWith}
