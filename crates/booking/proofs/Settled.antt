@@ -19,12 +19,13 @@ use Rattle.rules.proofs.Basics.{quiet, or-none}
 use Rattle.chain.specs.declared.steps.Found.{Found}
 use Rattle.chain.specs.StepList.{stepNumbers, stepsIn, noted}
 use Rattle.chain.specs.Steps.{FoundIn}
-use Rattle.chain.specs.Derivation.{chainBetween, Finds, derivedInto, Handed}
+use Rattle.chain.specs.Derivation.{chainBetween, Finds, derivedInto}
+use Rattle.chain.specs.Halves.{Handed}
 use Rattle.chain.proofs.StepList.{steps-none, steps-counted}
 use Rattle.chain.proofs.Linking.{found-refused, found-chained}
 use Rattle.rules.proofs.Conditions.{first-before, first-after}
 use Rattle.chain.proofs.Deriving.{chain-fits, derives-misfit, derives-halves, derives-refused, derives-chained}
-use Rattle.booking.specs.Settling.{bookingConditions, settleOutcome, settleInto, Settles}
+use Rattle.booking.specs.Settling.{settlingConditions, settleOutcome, settleInto, Settles}
 use Rattle.booking.proofs.Refused.{book-open}
 
 pub settle-fits : (l : List ℕ) (k : Lookups) (p c : List ℤ) (h g : Half) (u s : Bool) → length l ≡ stepNumbers → settleInto l k p c h g u s ≡ settleOutcome k p c h g u s
@@ -52,7 +53,7 @@ module _ (k : Lookups) (p c : List ℤ) (h g : Half) (u s : Bool) where
         rw (ne-eqb (length l) stepNumbers other) (record { answer = refl; steps = steps-none l; positions = refl; cash = refl; list = list })
 
     module _ (size : length l ≡ stepNumbers) where
-      refused-with : (n : ℕ) (m : List ℕ) → n ≡ firstOf (bookingConditions k p c h g u s) → (n ≡ 0 → ⊥) → m ≡ noted (derivedInto l k h g u s .steps) l
+      refused-with : (n : ℕ) (m : List ℕ) → n ≡ firstOf (settlingConditions k p c h g u s) → (n ≡ 0 → ⊥) → m ≡ noted (derivedInto l k h g u s .steps) l
           → Leaves (Refused n) p c m
       unfolding settleOutcome
       refused-with zero m e some list = absurd (some refl)
@@ -63,7 +64,7 @@ module _ (k : Lookups) (p c : List ℤ) (h g : Half) (u s : Bool) where
       abbrev later : List Condition
       later = chainConditions (chainBetween k h g) ++ bookConditions k p c h g (stepsOf (chainBetween k h g))
 
-      in-order : bookingConditions k p c h g u s ≡ bothConditions k h g u s ++ later
+      in-order : settlingConditions k p c h g u s ≡ bothConditions k h g u s ++ later
       in-order = append-assoc (bothConditions k h g u s) (chainConditions (chainBetween k h g)) (bookConditions k p c h g (stepsOf (chainBetween k h g)))
 
       pub by-halves : (n : ℕ) → n ≡ firstOf (bothConditions k h g u s) → (n ≡ 0 → ⊥) → Leaves (Refused n) p c l
@@ -73,7 +74,7 @@ module _ (k : Lookups) (p c : List ℤ) (h g : Half) (u s : Bool) where
 
       -- the halves are in order, and their chain is looked for
       module _ (ok : firstOf (bothConditions k h g u s) ≡ 0) (m : List ℕ) (r : Found) (found : Finds l m k (h .security) (h .account) (g .account) r) where
-        then-later : firstOf (bookingConditions k p c h g u s) ≡ firstOf later
+        then-later : firstOf (settlingConditions k p c h g u s) ≡ firstOf later
         then-later = ap firstOf in-order ∙ first-after (bothConditions k h g u s) later (quiet (bothConditions k h g u s) refl ok)
 
         is-found : FoundIn l m (chainBetween k h g) r
@@ -88,7 +89,7 @@ module _ (k : Lookups) (p c : List ℤ) (h g : Half) (u s : Bool) where
           chain-is : chainBetween k h g ≡ chained (stepsIn m (r .count))
           chain-is = found-chained is-found clear
 
-          whole : n ≡ firstOf (bookingConditions k p c h g u s)
+          whole : n ≡ firstOf (settlingConditions k p c h g u s)
           whole = number ∙ sym (then-later ∙ rw chain-is)
 
           list : m ≡ noted (derivedInto l k h g u s .steps) l

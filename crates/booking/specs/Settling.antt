@@ -16,7 +16,7 @@ use Rattle.rules.specs.Chain.{stepsOf}
 use Rattle.rules.specs.Booking.{booked, paid}
 use Rattle.rules.specs.Calls.{countOf, bookConditions}
 use Rattle.chain.specs.StepList.{stepNumbers, stepsIn, noted}
-use Rattle.chain.specs.Derivation.{chainBetween, pairConditions, derivedInto}
+use Rattle.chain.specs.Derivation.{chainBetween, derivingConditions, derivedInto}
 
 -- what a settlement answers, the steps that the answer counts, and the positions and cash after it
 pub record SettleOutcome : Type 0 where
@@ -37,12 +37,12 @@ settleOutcomeBy zero p c h g xs =
 settleOutcomeBy (suc n) p c h g xs = record { answer = Refused (suc n); steps = []; positions = p; cash = c }
 
 -- the conditions of the settlement of the halves h, which delivers, and g, which receives, and what is asked of their sides
-abbrev pub bookingConditions : Lookups → List ℤ → List ℤ → Half → Half → Bool → Bool → List Condition
-bookingConditions k p c h g unknown same = pairConditions k h g unknown same ++ bookConditions k p c h g (stepsOf (chainBetween k h g))
+abbrev pub settlingConditions : Lookups → List ℤ → List ℤ → Half → Half → Bool → Bool → List Condition
+settlingConditions k p c h g unknown same = derivingConditions k h g unknown same ++ bookConditions k p c h g (stepsOf (chainBetween k h g))
 
 -- that settlement
 unfoldable pub settleOutcome : Lookups → List ℤ → List ℤ → Half → Half → Bool → Bool → SettleOutcome
-settleOutcome k p c h g unknown same = settleOutcomeBy (firstOf (bookingConditions k p c h g unknown same)) p c h g (stepsOf (chainBetween k h g))
+settleOutcome k p c h g unknown same = settleOutcomeBy (firstOf (settlingConditions k p c h g unknown same)) p c h g (stepsOf (chainBetween k h g))
 
 -- the same into the lent list l; 3 where the list has another length
 unfoldable pub settleInto : List ℕ → Lookups → List ℤ → List ℤ → Half → Half → Bool → Bool → SettleOutcome

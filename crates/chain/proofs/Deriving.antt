@@ -17,7 +17,9 @@ use Rattle.rules.specs.Calls.{Halves, Store, Outcome, derive, outcome, core, wr
 use Rattle.rules.proofs.Basics.{quiet, impossible}
 use Rattle.rules.proofs.Conditions.{first-before, first-after}
 use Rattle.chain.specs.StepList.{stepNumbers, stepsIn, noted}
-use Rattle.chain.specs.Derivation.{chainInto, chainBetween, pairConditions, Finds, Derived, derivedBy, derived, derivedInto, DerivedIn, Derives, Handed}
+use Rattle.chain.specs.Derivation.{chainInto, chainBetween, derivingConditions, Finds, Derived, derivedBy, derived, derivedInto, DerivedIn, Derives}
+use Rattle.chain.specs.Halves.{inOrder, Handed}
+use Rattle.chain.specs.declared.halves.InOrder.{InOrder}
 use Rattle.chain.specs.declared.steps.Found.{Found}
 use Rattle.chain.proofs.StepList.{steps-none, steps-counted, noted-none}
 use Rattle.chain.proofs.Linking.{found-refused, found-chained}
@@ -43,11 +45,11 @@ module _ (l : List ℕ) (k : Lookups) (h g : Half) (u s : Bool) where
 
 -- ---- the derivation by its number
 module _ (k : Lookups) (h g : Half) (u s : Bool) where
-  by-number : (n : ℕ) → firstOf (pairConditions k h g u s) ≡ n → derived k h g u s ≡ derivedBy n (stepsOf (chainBetween k h g))
+  by-number : (n : ℕ) → firstOf (derivingConditions k h g u s) ≡ n → derived k h g u s ≡ derivedBy n (stepsOf (chainBetween k h g))
   unfolding derived
   by-number n e = ap (λ (i : ℕ). derivedBy i (stepsOf (chainBetween k h g))) e
 
-  refused-with : (n : ℕ) → firstOf (pairConditions k h g u s) ≡ n → (n ≡ 0 → ⊥) → derived k h g u s ≡ derivedBy n []
+  refused-with : (n : ℕ) → firstOf (derivingConditions k h g u s) ≡ n → (n ≡ 0 → ⊥) → derived k h g u s ≡ derivedBy n []
   refused-with zero e z = absurd (z refl)
   refused-with (suc n) e z = by-number (suc n) e
 
@@ -55,7 +57,7 @@ module _ (k : Lookups) (h g : Half) (u s : Bool) where
   refused-by-halves n e z = refused-with n (first-before (bothConditions k h g u s) (chainConditions (chainBetween k h g)) (λ w. z (e ∙ w)) ∙ sym e) z
 
   module _ (passed : firstOf (bothConditions k h g u s) ≡ 0) where
-    then-chain : firstOf (pairConditions k h g u s) ≡ firstOf (chainConditions (chainBetween k h g))
+    then-chain : firstOf (derivingConditions k h g u s) ≡ firstOf (chainConditions (chainBetween k h g))
     then-chain = first-after (bothConditions k h g u s) (chainConditions (chainBetween k h g)) (quiet (bothConditions k h g u s) refl passed)
 
     refused-by-chain : (n : ℕ) → chainBetween k h g ≡ unchained n → (n ≡ 0 → ⊥) → derived k h g u s ≡ derivedBy n []
@@ -99,9 +101,11 @@ module _ (l : List ℕ) (k : Lookups) (h g : Half) (u s : Bool) where
           })
 
 -- ---- two halves as a function is handed them
-pub handed-by : (hs : Halves) {h g : Half} {unknown same : Bool} → h ≡ delivering hs → g ≡ receiving hs → unknown ≡ sideUnknown hs → same ≡ sameSide hs
-    → Handed hs h g unknown same
-handed-by hs a b c d = record { delivers = sym a; receives = sym b; unknownSide = sym c; oneSide = sym d }
+pub handed : (hs : Halves) → Handed hs (delivering hs) (receiving hs) (sideUnknown hs) (sameSide hs)
+handed hs = record { delivers = refl; receives = refl; unknownSide = refl; oneSide = refl }
+
+pub handed-in-order : (hs : Halves) (x : InOrder) → x ≡ inOrder hs → Handed hs (x .delivering) (x .receiving) (x .unknown) (x .same)
+handed-in-order hs x e = rw e (handed hs)
 
 pub handed-derives : {hs : Halves} {h g : Half} {unknown same : Bool} → Handed hs h g unknown same → (l m : List ℕ) (k : Lookups) (r : Answer)
     → Derives l m k h g unknown same r → Derives l m k (delivering hs) (receiving hs) (sideUnknown hs) (sameSide hs) r

@@ -12,7 +12,7 @@ use Rattle.rules.specs.declared.Answer.the-variants.{Chained, Refused}
 use Rattle.rules.specs.Tests.{Condition, firstOf}
 use Rattle.rules.specs.Lookups.{Lookups}
 use Rattle.rules.specs.Chain.{Chain, unchained, chain, stepsOf, chainConditions}
-use Rattle.rules.specs.Calls.{Halves, delivering, receiving, sideUnknown, sameSide, countOf, bothConditions}
+use Rattle.rules.specs.Calls.{countOf, bothConditions}
 use Rattle.chain.specs.StepList.{stepNumbers, stepsIn, noted}
 use Rattle.chain.specs.Steps.{FoundIn}
 use Rattle.chain.specs.declared.steps.Found.{Found}
@@ -40,12 +40,12 @@ abbrev pub chainBetween : Lookups → Half → Half → Chain
 chainBetween k h g = chain k (h .security) (h .account) (g .account)
 
 -- the conditions of the derivation for the halves h, which delivers, and g, which receives, and what is asked of their sides
-abbrev pub pairConditions : Lookups → Half → Half → Bool → Bool → List Condition
-pairConditions k h g unknown same = bothConditions k h g unknown same ++ chainConditions (chainBetween k h g)
+abbrev pub derivingConditions : Lookups → Half → Half → Bool → Bool → List Condition
+derivingConditions k h g unknown same = bothConditions k h g unknown same ++ chainConditions (chainBetween k h g)
 
 -- that derivation
 unfoldable pub derived : Lookups → Half → Half → Bool → Bool → Derived
-derived k h g unknown same = derivedBy (firstOf (pairConditions k h g unknown same)) (stepsOf (chainBetween k h g))
+derived k h g unknown same = derivedBy (firstOf (derivingConditions k h g unknown same)) (stepsOf (chainBetween k h g))
 
 -- the same into the lent list l; 3 where the list has another length
 unfoldable pub derivedInto : List ℕ → Lookups → Half → Half → Bool → Bool → Derived
@@ -60,14 +60,3 @@ pub record DerivedIn (l m : List ℕ) (x : Derived) (r : Answer) : Type 0 where
 -- what a function that derives promises
 abbrev pub Derives : List ℕ → List ℕ → Lookups → Half → Half → Bool → Bool → Answer → Type 0
 Derives l m k h g unknown same r = DerivedIn l m (derivedInto l k h g unknown same) r
-
--- What a function that derives or settles is handed of two halves: the half h, which delivers, g, which receives, and what is asked of their sides.
-pub record Handed (hs : Halves) (h g : Half) (unknown same : Bool) : Type 0 where
-  pub delivers : delivering hs ≡ h
-  pub receives : receiving hs ≡ g
-  pub unknownSide : sideUnknown hs ≡ unknown
-  pub oneSide : sameSide hs ≡ same
-
--- it is handed two halves
-abbrev pub Halved : Half → Half → Bool → Bool → Type 0
-Halved h g unknown same = (hs : Halves) × Handed hs h g unknown same

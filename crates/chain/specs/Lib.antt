@@ -1,3 +1,4 @@
+pub mod Halves
 pub mod StepList
 pub mod Steps
 pub mod Derivation

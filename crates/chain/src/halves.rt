@@ -1,4 +1,4 @@
-// Two halves of an instruction: what refuses them before a chain is looked for.
+// Two halves of an instruction: put in order where they have their sides, and what refuses them before a chain is looked for.
 use index::lookups::in_books;
 use index::lookups::is_account;
 use index::lookups::is_csd;
@@ -17,6 +17,15 @@ ghost use Rattle.rules.specs.Tests.{firstOf};
 ghost use Rattle.rules.specs.Calls.{sided, deliveringSide, delivering, receiving, sideUnknown, sameSide};
 ghost use Rattle.rules.specs.Calls.{halfUnknown, halfOutOfRange, halvesDiffer, bothConditions};
 ghost use Rattle.index.specs.Asked.{asked};
+ghost use Rattle.chain.specs.Halves.{inOrder};
+
+// Two halves in order, and what is asked of their sides: whether one is unknown, and whether both are the same.
+pub struct InOrder {
+    pub delivering: Half,
+    pub receiving: Half,
+    pub unknown: bool,
+    pub same: bool,
+}
 
 // ---- two halves with their sides
 
@@ -28,7 +37,7 @@ fn first_delivers(first: SidedHalf) -> bool
 }
 
 // The half that delivers.
-pub fn delivering(first: SidedHalf, second: SidedHalf) -> Half
+fn delivering(first: SidedHalf, second: SidedHalf) -> Half
     ensures { λ r. ⌜ r ≡ delivering (sided first second) ⌝ }
 {
     if first_delivers(first) {
@@ -39,7 +48,7 @@ pub fn delivering(first: SidedHalf, second: SidedHalf) -> Half
 }
 
 // The other one.
-pub fn receiving(first: SidedHalf, second: SidedHalf) -> Half
+fn receiving(first: SidedHalf, second: SidedHalf) -> Half
     ensures { λ r. ⌜ r ≡ receiving (sided first second) ⌝ }
 {
     if first_delivers(first) {
@@ -50,17 +59,31 @@ pub fn receiving(first: SidedHalf, second: SidedHalf) -> Half
 }
 
 // Whether a side byte is none of the two.
-pub fn side_unknown(first: SidedHalf, second: SidedHalf) -> bool
+fn side_unknown(first: SidedHalf, second: SidedHalf) -> bool
     ensures { λ r. ⌜ r ≡ sideUnknown (sided first second) ⌝ }
 {
     (RECEIVING < first.side) | (RECEIVING < second.side)
 }
 
 // Whether both halves are of one side.
-pub fn same_side(first: SidedHalf, second: SidedHalf) -> bool
+fn same_side(first: SidedHalf, second: SidedHalf) -> bool
     ensures { λ r. ⌜ r ≡ sameSide (sided first second) ⌝ }
 {
     first.side == second.side
+}
+
+// They are put in order here; everything behind it knows the half that delivers and the one that receives.
+pub fn in_order(first: SidedHalf, second: SidedHalf) -> InOrder
+    ensures { λ r. ⌜ r ≡ inOrder (sided first second) ⌝ }
+{
+    let unknown = side_unknown(first, second);
+    let same = same_side(first, second);
+    InOrder {
+        delivering: delivering(first, second),
+        receiving: receiving(first, second),
+        unknown,
+        same,
+    }
 }
 
 // ---- the refusals

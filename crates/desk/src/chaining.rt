@@ -2,7 +2,7 @@
 use crate::early_refusal;
 use booking::settling;
 use chain::derivation;
-use chain::halves;
+use chain::halves::in_order;
 use chain::step_list::STEP_NUMBERS;
 use chain::step_list::count_of;
 use chain::step_list::step_at;
@@ -25,7 +25,7 @@ ghost use Prim.Native.Nat.{_≤_, _<_};
 ghost use lib.ListN.{length, getD};
 ghost use Rattle.rules.specs.Calls.{Halves, ordered, sided, countOf, written};
 ghost use Rattle.chain.specs.StepList.{stepsIn};
-ghost use Rattle.chain.specs.Derivation.{Handed, Halved};
+ghost use Rattle.chain.specs.Halves.{Handed, Halved};
 ghost use Rattle.desk.specs.Replies.{refusal};
 
 // ---- by value
@@ -187,11 +187,15 @@ pub fn derive_sided_reply(
 ) -> Reply
     ensures { λ r. ⌜ r ≡ replyOf (derivationOn directory (blanks lent) (sided first second)) ⌝ }
 {
-    let from = halves::delivering(first, second);
-    let to = halves::receiving(first, second);
-    let unknown = halves::side_unknown(first, second);
-    let same = halves::same_side(first, second);
-    derived(directory, lent, from, to, unknown, same)
+    let pair = in_order(first, second);
+    derived(
+        directory,
+        lent,
+        pair.delivering,
+        pair.receiving,
+        pair.unknown,
+        pair.same,
+    )
 }
 
 // Two halves booked, delivering first, for a caller that is lent `lent` steps.
@@ -233,11 +237,17 @@ pub fn settle_sided_reply(
         × (now (positions .exit) ≡ settlementOn directory (now (positions .entry)) (now (cash .entry)) (blanks lent) (sided first second) .store .positions)
         × (now (cash .exit) ≡ settlementOn directory (now (positions .entry)) (now (cash .entry)) (blanks lent) (sided first second) .store .cash) ⌝ }
 {
-    let from = halves::delivering(first, second);
-    let to = halves::receiving(first, second);
-    let unknown = halves::side_unknown(first, second);
-    let same = halves::same_side(first, second);
-    settled(directory, positions, cash, lent, from, to, unknown, same)
+    let halves = in_order(first, second);
+    settled(
+        directory,
+        positions,
+        cash,
+        lent,
+        halves.delivering,
+        halves.receiving,
+        halves.unknown,
+        halves.same,
+    )
 }
 
 // The chain of two halves, delivering first, with its steps by value: what a lent list of 16 blank steps would hold.

@@ -4,10 +4,8 @@ use booking::moves::move_securities;
 use booking::payments::move_cash;
 use booking::settling::settle;
 use chain::derivation::derive;
-use chain::halves::delivering;
-use chain::halves::receiving;
-use chain::halves::same_side;
-use chain::halves::side_unknown;
+use chain::halves::InOrder;
+use chain::halves::in_order;
 use entries::entries::enter_account;
 use entries::entries::enter_csd;
 use entries::entries::enter_link;
@@ -28,11 +26,12 @@ use wire::operands::decode_payment;
 use wire::operands::decode_receiving;
 use wire::operands::decode_second;
 use wire::operands::decode_security;
+ghost use mathlib.Core.Path.{_≡_};
 ghost use mathlib.Core.List.{List};
 ghost use Prim.Native.Nat.{ℕ, _<_, _≤_};
 ghost use Rattle.rules.specs.Calls.{Halves};
 ghost use Rattle.rules.specs.Stream.{callOf};
-ghost use Rattle.chain.specs.Derivation.{Handed};
+ghost use Rattle.chain.specs.Halves.{inOrder, Handed};
 ghost use Rattle.wire.specs.Operands.{halvesIn};
 ghost use Rattle.stream.specs.Obeyed.{keptIn, held, Does, Enters, Moves, Pays, Whole, instruction};
 
@@ -82,20 +81,12 @@ fn move_money(index: &[u16; INDEX], cash: &mut [i64], tag: u8, operands: &[u8]) 
     move_cash(index, cash, tag == 8, asked.account, asked.amount)
 }
 
-// Two halves in order, and what is asked of their sides: whether one is unknown, and whether both are the same.
-struct Pair {
-    delivering: Half,
-    receiving: Half,
-    unknown: bool,
-    same: bool,
-}
-
 // The halves of 0A to 0D.
-fn read_pair(tag: u8, operands: &[u8]) -> Pair
-    ensures { λ r. ⌜ Handed (halvesIn tag (now (operands .entry))) (r .delivering) (r .receiving) (r .unknown) (r .same) ⌝ }
+fn read_pair(tag: u8, operands: &[u8]) -> InOrder
+    ensures { λ r. ⌜ r ≡ inOrder (halvesIn tag (now (operands .entry))) ⌝ }
 {
     if tag < 12 {
-        return Pair {
+        return InOrder {
             delivering: decode_delivering(operands),
             receiving: decode_receiving(operands),
             unknown: false,
@@ -104,12 +95,7 @@ fn read_pair(tag: u8, operands: &[u8]) -> Pair
     }
     let first = decode_first(operands);
     let second = decode_second(operands);
-    Pair {
-        delivering: delivering(first, second),
-        receiving: receiving(first, second),
-        unknown: side_unknown(first, second),
-        same: same_side(first, second),
-    }
+    in_order(first, second)
 }
 
 // Two halves settled, or their chain derived. What is asked of the sides comes last.

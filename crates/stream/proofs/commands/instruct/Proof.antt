@@ -1,6 +1,7 @@
 -- `stream::commands::instruct` meets its contract: both halves read, and settled or derived as the byte says. Assumes nothing.
 use denote.Ref.{now}
 use Rattle.wire.specs.Operands.{halvesIn}
+use Rattle.chain.proofs.Deriving.{handed-in-order}
 use Rattle.stream.proofs.CallKinds.{pair-call}
 use borrow.Author.Needs.{needs}
 use Rattle.stream.proofs.commands.instruct.Statement.{statement}
@@ -25,8 +26,9 @@ returns : tie.Need-returns
 returns c =
     let s = c .before .before .before .before .before .before .before .before .before .before .before in
     let a = s .args in
-    rw (pair-call (a .tag) (now (a .operands)) (s .pre))
-    (c .before .before .before .before .instruct-pair .ensures (halvesIn (a .tag) (now (a .operands))) (c .before .before .before .before .before .before .before .before .read-pair .ensures))
+    let hs = halvesIn (a .tag) (now (a .operands)) in
+    let read = c .before .before .before .before .before .before .before .before .read-pair in
+    rw (pair-call (a .tag) (now (a .operands)) (s .pre)) (c .before .before .before .before .instruct-pair .ensures hs (handed-in-order hs (read .result) (read .ensures)))
 
 pub instruct-spec : {M : Type 1} → statement M
 instruct-spec =
