@@ -153,7 +153,27 @@ pub mod boundary {
         }
     }
 
-    pub fn settle(
+    /// An export that settles two halves, in order or with their sides.
+    type Settle = unsafe extern "C" fn(
+        *const usize,
+        usize,
+        *const u8,
+        usize,
+        *mut i64,
+        usize,
+        *mut i64,
+        usize,
+        *const u8,
+        usize,
+        *mut u8,
+        usize,
+    ) -> u64;
+
+    /// One that derives their chain.
+    type Derive = unsafe extern "C" fn(*const usize, usize, *const u8, usize, *const u8, usize, *mut u8, usize) -> u64;
+
+    fn settle_by(
+        export: Settle,
         directory: &Bytes,
         positions: &mut [Units],
         cash: &mut [Cents],
@@ -162,7 +182,7 @@ pub mod boundary {
     ) -> u64 {
         let Bytes { counts, rows } = directory;
         unsafe {
-            fluzzam_settle(
+            export(
                 counts.as_ptr(),
                 counts.len(),
                 rows.as_ptr(),
@@ -179,10 +199,10 @@ pub mod boundary {
         }
     }
 
-    pub fn derive(directory: &Bytes, operands: &[u8], steps: &mut [u8]) -> u64 {
+    fn derive_by(export: Derive, directory: &Bytes, operands: &[u8], steps: &mut [u8]) -> u64 {
         let Bytes { counts, rows } = directory;
         unsafe {
-            fluzzam_derive(
+            export(
                 counts.as_ptr(),
                 counts.len(),
                 rows.as_ptr(),
@@ -193,6 +213,16 @@ pub mod boundary {
                 steps.len(),
             )
         }
+    }
+
+    pub fn settle(
+        directory: &Bytes,
+        positions: &mut [Units],
+        cash: &mut [Cents],
+        operands: &[u8],
+        steps: &mut [u8],
+    ) -> u64 {
+        settle_by(fluzzam_settle, directory, positions, cash, operands, steps)
     }
 
     pub fn settle_sided(
@@ -202,39 +232,15 @@ pub mod boundary {
         operands: &[u8],
         steps: &mut [u8],
     ) -> u64 {
-        let Bytes { counts, rows } = directory;
-        unsafe {
-            fluzzam_settle_sided(
-                counts.as_ptr(),
-                counts.len(),
-                rows.as_ptr(),
-                rows.len(),
-                positions.as_mut_ptr().cast(),
-                positions.len(),
-                cash.as_mut_ptr().cast(),
-                cash.len(),
-                operands.as_ptr(),
-                operands.len(),
-                steps.as_mut_ptr(),
-                steps.len(),
-            )
-        }
+        settle_by(fluzzam_settle_sided, directory, positions, cash, operands, steps)
+    }
+
+    pub fn derive(directory: &Bytes, operands: &[u8], steps: &mut [u8]) -> u64 {
+        derive_by(fluzzam_derive, directory, operands, steps)
     }
 
     pub fn derive_sided(directory: &Bytes, operands: &[u8], steps: &mut [u8]) -> u64 {
-        let Bytes { counts, rows } = directory;
-        unsafe {
-            fluzzam_derive_sided(
-                counts.as_ptr(),
-                counts.len(),
-                rows.as_ptr(),
-                rows.len(),
-                operands.as_ptr(),
-                operands.len(),
-                steps.as_mut_ptr(),
-                steps.len(),
-            )
-        }
+        derive_by(fluzzam_derive_sided, directory, operands, steps)
     }
 
     pub fn security_total(directory: &Bytes, positions: &[Units], security: u8, sum: &mut [i64]) -> u64 {
