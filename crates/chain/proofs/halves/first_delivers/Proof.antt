@@ -1,0 +1,10 @@
+-- By the side bytes alone.
+use borrow.Author.Needs.{needs}
+use Rattle.chain.proofs.halves.first_delivers.Statement.{statement}
+use Rattle.chain.proofs.halves.first_delivers.Tie as tie
+
+returns : tie.Need-returns
+returns c = search needs
+
+pub first-delivers-spec : {M : Type 1} → statement M
+first-delivers-spec = tie.close (tie.spec returns)
