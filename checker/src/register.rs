@@ -132,7 +132,7 @@ impl Register {
         require(!table.is_full(), Refusal::TableFull)?;
         let in_range = csd.kind <= EXTERNAL && csd.bic.iter().all(|&byte| isin::capital_or_digit(byte));
         require(in_range, Refusal::OutsideRange)?;
-        let entered = table.rows[..table.count].iter().any(|row| row.bic[..8] == csd.bic[..8]);
+        let entered = table.rows[..table.count].iter().any(|row| row.bic == csd.bic);
         require(!entered, Refusal::AlreadyEntered)?;
         if csd.kind == EXTERNAL {
             self.external.insert(CsdNumber(table.count as u8));

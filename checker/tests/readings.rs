@@ -137,11 +137,29 @@ fn investors_and_technical_issuers_of_pairs() {
 }
 
 #[test]
-fn a_bic_is_the_same_by_its_first_eight_bytes_in_and_outside_t2s() {
+fn a_bic_is_the_same_by_all_its_bytes_in_and_outside_t2s() {
     let mut s = fixture();
-    let mut branch = bic(usize::from(Y));
-    branch[8..].copy_from_slice(b"ABC");
-    assert_eq!(number(s.send(Command::EnterCsd(Csd { kind: IN_T2S, bic: branch }))), 9);
+    let mut enter = |kind, bic| number(s.send(Command::EnterCsd(Csd { kind, bic })));
+    let head = bic(usize::from(Y));
+    let mut branch = head;
+    for place in 8..11 {
+        branch[place] = b'A';
+        assert_eq!(enter(IN_T2S, branch), 0);
+    }
+    for kind in [IN_T2S, EXTERNAL] {
+        assert_eq!(enter(kind, head), 9);
+        assert_eq!(enter(kind, branch), 9);
+    }
+}
+
+#[test]
+fn three_capitals_x_are_a_branch_like_any_other() {
+    let mut s = fixture();
+    let mut enter = |bic| number(s.send(Command::EnterCsd(Csd { kind: IN_T2S, bic })));
+    assert_eq!(enter(*b"BBBBXX00ABC"), 0);
+    assert_eq!(enter(*b"BBBBXX00XXX"), 0);
+    assert_eq!(enter(*b"BBBBXX00DEF"), 0);
+    assert_eq!(enter(*b"BBBBXX00XXX"), 9);
 }
 
 #[test]

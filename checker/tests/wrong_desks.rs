@@ -3,6 +3,7 @@
 
 use checker::booking::SidedHalf;
 use checker::command::Command;
+use checker::directory::{Bic, Csd};
 use checker::trial::coverage::Coverage;
 use checker::trial::differential;
 use checker::trial::implementation::{Answer, Call, Implementation, Model, Program, Store};
@@ -30,7 +31,8 @@ impl Implementation for WrongDesk {
 /// Both kinds of trial notice the mistake.
 fn is_caught(mistake: Mistake) {
     let mut coverage = Coverage::default();
-    let by_streams = (1..200).find_map(|seed| differential::stream(seed, &mut WrongDesk(mistake), &mut coverage).err());
+    let by_streams =
+        (1..1000).find_map(|seed| differential::stream(seed, &mut WrongDesk(mistake), &mut coverage).err());
     let by_calls = (1..2000).find_map(|seed| differential::calls(seed, &mut WrongDesk(mistake), &mut coverage).err());
     println!("{by_streams:?}\n{by_calls:?}");
     assert!(by_streams.is_some() && by_calls.is_some());
@@ -248,6 +250,79 @@ mod sides {
                 if first.side == 1 {
                     store.steps[..length].reverse();
                 }
+            }
+            answer
+        });
+    }
+}
+
+/// Document 02, ask 2: "Branches are different depositories".
+mod branches {
+    use super::*;
+
+    /// The CSDs that are entered.
+    fn csds(store: &Store) -> &[Csd] {
+        store.directory.csds.entered().unwrap_or_default()
+    }
+
+    /// An accepted CSD is 9 beside one whose BIC is the same by the test.
+    fn refused_by(
+        same: fn(&Bic, &Bic) -> bool,
+        call: &Call,
+        before: &Store,
+        store: &mut Store,
+        answer: Answer,
+    ) -> Answer {
+        match (call, answer) {
+            (Call::Command(Command::EnterCsd(new)), Answer::Accepted)
+                if csds(before).iter().any(|row| same(&row.bic, &new.bic)) =>
+            {
+                store.clone_from(before);
+                Answer::Refused(9)
+            }
+            _ => answer,
+        }
+    }
+
+    #[test]
+    fn the_first_eight_bytes_decide() {
+        is_caught(|call, before, store, answer| refused_by(|a, b| a[..8] == b[..8], call, before, store, answer));
+    }
+
+    #[test]
+    fn the_last_byte_is_not_read() {
+        is_caught(|call, before, store, answer| refused_by(|a, b| a[..10] == b[..10], call, before, store, answer));
+    }
+
+    #[test]
+    fn three_capitals_x_are_any_branch() {
+        fn same(a: &Bic, b: &Bic) -> bool {
+            a[..8] == b[..8] && (a[8..] == *b"XXX" || b[8..] == *b"XXX")
+        }
+        is_caught(|call, before, store, answer| refused_by(same, call, before, store, answer));
+    }
+
+    #[test]
+    fn only_csds_of_one_type_are_compared() {
+        is_caught(|call, _, store, answer| match (call, answer) {
+            (Call::Command(Command::EnterCsd(new)), Answer::Refused(9)) if !csds(store).contains(new) => {
+                let table = &mut store.directory.csds;
+                table.rows[table.count] = *new;
+                table.count += 1;
+                Answer::Accepted
+            }
+            _ => answer,
+        });
+    }
+
+    #[test]
+    fn soundness_goes_by_the_first_eight_bytes() {
+        is_caught(|call, before, store, answer| {
+            let rows = csds(before);
+            let twice = (0..rows.len()).any(|i| rows[..i].iter().any(|row| row.bic[..8] == rows[i].bic[..8]));
+            if twice && !matches!(call, Call::CashTotal) && !matches!(answer, Answer::Refused(3..=4)) {
+                store.clone_from(before);
+                return Answer::Refused(4);
             }
             answer
         });

@@ -133,12 +133,27 @@ impl Draw<'_> {
     }
 
     fn csd_row(&mut self) -> Csd {
-        let mut bic = std::array::from_fn(|_| self.capital_or_digit());
-        if self.random.percent(30) {
-            let other = self.directory.csds.rows[self.random.below(CSDS)].bic;
-            bic[..8].copy_from_slice(&other[..8]);
-        }
+        let bic = if self.random.percent(40) { self.bic_near() } else { self.bic() };
         Csd { kind: self.random.pick(&[IN_T2S, IN_T2S, EXTERNAL]), bic }
+    }
+
+    fn bic(&mut self) -> Bic {
+        std::array::from_fn(|_| self.capital_or_digit())
+    }
+
+    /// A BIC that is entered, often the last, or one near it: three capitals X, another branch, one byte changed.
+    fn bic_near(&mut self) -> Bic {
+        let entered = self.directory.csds.count.clamp(1, CSDS);
+        let row = if self.random.percent(50) { entered - 1 } else { self.random.below(entered) };
+        let mut bic = self.directory.csds.rows[row].bic;
+        match self.random.below(10) {
+            0..=2 => {}
+            3 | 4 => bic[8..].copy_from_slice(b"XXX"),
+            5 => bic[8..].copy_from_slice(&self.bic()[8..]),
+            6..=8 => bic[self.random.between(8, 10)] = self.capital_or_digit(),
+            _ => bic[self.random.below(8)] = self.capital_or_digit(),
+        }
+        bic
     }
 
     fn security_row(&mut self) -> Security {

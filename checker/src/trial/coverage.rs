@@ -7,6 +7,7 @@ use std::ops::RangeInclusive;
 use super::implementation::{Answer, Call};
 use super::literal::ChainKind;
 use crate::command::Command;
+use crate::directory::{Bic, Csd};
 
 /// A command's name with the refusals that it can give in a stream, and those that it can give as a
 /// single call besides. Over a store reached from empty a pay-out never ends beyond the bound.
@@ -37,6 +38,17 @@ pub const SIDES: [(&str, &[u8]); 8] = [
     ("derive, receiving half first", &[0, 6, 7, 10, 12, 13, 14, 15, 16, 17, 18]),
     ("derive, the same side twice", &[6, 7, 10, 23]),
     ("derive, a byte that is no side", &[6, 7]),
+];
+
+/// How the BIC of a new CSD can stand to those entered, with the one answer that it then gets where the CSD is
+/// neither 5 nor 7; 0 stands for acceptance.
+pub const BICS: [(&str, &[u8]); 6] = [
+    ("all 11 bytes entered", &[9]),
+    ("another ninth byte alone", &[0]),
+    ("another tenth byte alone", &[0]),
+    ("another eleventh byte alone", &[0]),
+    ("XXX beside another branch", &[0]),
+    ("a branch beside XXX", &[0]),
 ];
 
 /// The flaws that make a directory unsound, by table: 5 is a count beyond the limit.
@@ -70,6 +82,7 @@ pub const LENGTHS: [(ChainKind, RangeInclusive<usize>); 7] = [
 pub struct Coverage {
     answers: BTreeMap<(&'static str, u8), u64>,
     sides: BTreeMap<(&'static str, u8), u64>,
+    bics: BTreeMap<(&'static str, u8), u64>,
     flaws: BTreeMap<(&'static str, u8), u64>,
     chains: BTreeMap<(&'static str, ChainKind, usize), u64>,
 }
@@ -103,13 +116,37 @@ fn sides_name(command: &Command) -> Option<&'static str> {
     Some(SIDES[place + way].0)
 }
 
+/// How the BIC of a new CSD stands to those entered, beside each that it is near to.
+fn bic_names(new: &Bic, entered: &[Csd]) -> Vec<&'static str> {
+    if entered.iter().any(|row| row.bic == *new) {
+        return vec![BICS[0].0];
+    }
+    let group = entered.iter().map(|row| row.bic).filter(|bic| bic[..8] == new[..8]);
+    let near = group.flat_map(|bic| {
+        let differ: Vec<usize> = (8..11).filter(|&place| bic[place] != new[place]).collect();
+        let single = if let [place] = differ[..] { Some(place - 7) } else { None };
+        let head = match (&new[8..], &bic[8..]) {
+            (b"XXX", _) => Some(4),
+            (_, b"XXX") => Some(5),
+            _ => None,
+        };
+        [single, head]
+    });
+    near.flatten().map(|way| BICS[way].0).collect()
+}
+
 impl Coverage {
-    /// Counts the answer to a call.
-    pub fn call(&mut self, call: &Call, answer: &Answer) {
+    /// Counts the answer to a call, over the CSDs that were entered before it.
+    pub fn call(&mut self, call: &Call, answer: &Answer, entered: &[Csd]) {
         self.answer(call_name(call), answer);
         let Call::Command(command) = call else { return };
         if let (Some(name), false) = (sides_name(command), matches!(answer, Answer::Refused(3..=4))) {
             *self.sides.entry((name, number(answer))).or_default() += 1;
+        }
+        if let (Command::EnterCsd(new), Answer::Accepted | Answer::Refused(9)) = (command, answer) {
+            for name in bic_names(&new.bic, entered) {
+                *self.bics.entry((name, number(answer))).or_default() += 1;
+            }
         }
     }
 
@@ -136,7 +173,7 @@ impl Coverage {
     pub fn of_streams(&self) -> Vec<String> {
         let expected = COMMANDS.iter().flat_map(|&(name, refusals, _)| numbered(name, &[refusals, &[0]].concat()));
         let wrong = compare(&self.answers, expected.chain([(UNKNOWN, 1)]).collect());
-        [wrong, self.sides_missing(), self.chains_missing()].concat()
+        [wrong, self.sides_missing(), self.bics_missing(), self.chains_missing()].concat()
     }
 
     /// The same for single calls.
@@ -148,11 +185,15 @@ impl Coverage {
         let totals = TOTALS.iter().flat_map(|&(name, refusals)| numbered(name, &[refusals, &[0]].concat()));
         let flaws = FLAWS.iter().flat_map(|&(table, numbers)| numbered(table, numbers));
         let wrong = compare(&self.answers, commands.chain(totals).collect());
-        [wrong, self.sides_missing(), compare(&self.flaws, flaws.collect())].concat()
+        [wrong, self.sides_missing(), self.bics_missing(), compare(&self.flaws, flaws.collect())].concat()
     }
 
     fn sides_missing(&self) -> Vec<String> {
         compare(&self.sides, SIDES.iter().flat_map(|&(name, numbers)| numbered(name, numbers)).collect())
+    }
+
+    fn bics_missing(&self) -> Vec<String> {
+        compare(&self.bics, BICS.iter().flat_map(|&(name, numbers)| numbered(name, numbers)).collect())
     }
 
     fn chains_missing(&self) -> Vec<String> {
@@ -192,7 +233,7 @@ fn numbered(name: &'static str, numbers: &[u8]) -> Vec<(&'static str, u8)> {
 
 impl Display for Coverage {
     fn fmt(&self, formatter: &mut Formatter) -> fmt::Result {
-        for ((name, number), times) in self.answers.iter().chain(&self.sides) {
+        for ((name, number), times) in self.answers.iter().chain(&self.sides).chain(&self.bics) {
             let answer = if *number == 0 { "accepted".into() } else { format!("no {number}") };
             writeln!(formatter, "{name:30} {answer:9} {times:9}")?;
         }

@@ -96,7 +96,7 @@ pub fn calls(seed: u64, subject: &mut impl Implementation, coverage: &mut Covera
         if matches!(answer, Answer::Refused(_)) && other != before {
             return Err(place("refused, but something changed".into()));
         }
-        coverage.call(&call, &answer);
+        coverage.call(&call, &answer, before.directory.csds.entered().unwrap_or_default());
         if matches!(answer, Answer::Booked(_) | Answer::Chain(_) | Answer::Refused(14..=18)) {
             let rows = Rows::from(&before.directory);
             same_chain(&rows, &call, &answer, &other.steps, coverage).map_err(place)?;
@@ -141,7 +141,7 @@ fn list_of_calls(
         let call = Call::Command(command);
         lend_steps(&mut random, &mut store, subject, &call).map_err(place)?;
         let answer = answer_in_every_form(subject, &mut store, &call).map_err(place)?;
-        coverage.call(&call, &answer);
+        coverage.call(&call, &answer, &balances.rows.csds);
         same_chain(&balances.rows, &call, &answer, &store.steps, coverage).map_err(place)?;
         balances.after(&call, &answer, &store).map_err(place)?;
         print(&mut text, number, &answer, &store.steps)?;

@@ -76,7 +76,7 @@ pub fn entries() -> Vec<u8> {
     let mut refused = Refused::over_three_csds();
     refused.send(Command::EnterCsd(Csd { kind: 2, bic: bic(9) }));
     refused.send(Command::EnterCsd(Csd { kind: IN_T2S, bic: *b"AAAAxX09XXX" }));
-    refused.send(Command::EnterCsd(Csd { kind: EXTERNAL, bic: *b"AAAAXX00ABC" }));
+    refused.send(Command::EnterCsd(Csd { kind: EXTERNAL, bic: bic(0) }));
     for isin in [b"XS000000001A", b"X00000000017", b"XS00000-0017", b"XS0000000008", b"XS0000000009"] {
         refused.send(Command::EnterSecurity(Security { isin: *isin }));
     }

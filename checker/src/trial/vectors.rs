@@ -1,11 +1,12 @@
 //! Inputs that are worth keeping: every refusal of every command, chains of every kind and length, sided halves
-//! in either order, the ends of the input's length, damaged streams, and large sums. The model's transcripts are their outputs.
+//! in either order, branches, the ends of the input's length, damaged streams, and large sums. The model's transcripts are their outputs.
 
 use super::busy;
 use super::forms::{Form, FORMS};
 use super::refused;
 use super::scenario::{halves, Scenario};
 use crate::booking::BOUND;
+use crate::command::Command;
 use crate::directory::*;
 
 /// All vectors, by name.
@@ -27,6 +28,7 @@ pub fn vectors() -> Vec<(&'static str, Vec<u8>)> {
         ("sided-refusals", refused::sided_settlements()),
         ("sided-cut-by-one", cut_or_unknown(&[0x0C; 42])),
         ("sided-cut-before-second-half", cut_or_unknown(&[0x0D; 22])),
+        ("branches", branches()),
         ("large-sums", large_sums()),
         ("empty", Vec::new()),
         ("unknown-byte", cut_or_unknown(&[0x00])),
@@ -104,6 +106,35 @@ fn trade(scenario: &mut Scenario, forms: &[Form], security: u8, trades: &[(u16, 
             }
         }
     }
+}
+
+/// CSDs whose BICs differ in the last three bytes, or in one byte alone, three capitals X among them. All are entered; each
+/// is then 9, in T2S and outside, and two of them settle.
+fn branches() -> Vec<u8> {
+    let bics = [
+        b"AAAAXX00XXX",
+        b"AAAAXX00ABC",
+        b"AAAAXX00ABD",
+        b"AAAAXX00AXC",
+        b"AAAAXX00XBC",
+        b"AAAAXX00XXC",
+        b"BAAAXX00ABC",
+    ];
+    let mut scenario = Scenario::default();
+    for kind in [IN_T2S, IN_T2S, EXTERNAL] {
+        for bic in bics {
+            scenario.send(Command::EnterCsd(Csd { kind, bic: *bic })).ok();
+        }
+    }
+    scenario.send(Command::EnterCsd(Csd { kind: EXTERNAL, bic: *b"AAAAXX00XX0" })).ok();
+    let security = scenario.security();
+    scenario.issuer(security, 0);
+    scenario.link(security, 1, 0, DEFAULT);
+    scenario.pair(1, 0);
+    let (from, to) = (scenario.participant(0), scenario.participant(1));
+    scenario.bring_in(from, security, 100).ok();
+    scenario.settle(from, to, security, 40, 0).ok();
+    scenario.bytes
 }
 
 /// Totals far beyond 10^15, by many accounts at 10^15 each.

@@ -6,7 +6,7 @@ use mathlib.Core.List.{List, [], _∷_, List·Memᴰ, List·Memᴰ·head, List·
 use mathlib.Core.Option.{none, some}
 use native.Mathlib.Omega.{arith}
 use native.Mathlib.Decide.{decLt}
-use lib.Dec.{leb, eqb}
+use lib.Dec.{leb}
 use lib.ListN.{length, getD, getElem?, take, length-take, List·getD-eq-default}
 use lib.Seq.{getD-take, take-all}
 use borrow.Author.Tests.{lt-ltb}
@@ -26,7 +26,7 @@ use Rattle.index.proofs.LookingUp.{facts}
 use Rattle.index.proofs.Answers.{reads}
 use Rattle.entries.specs.Names.{Named, bicSize, isinSize, isins, namesSize, nameByte, bicOf, isinOf, anyBelow, bicIn, isinIn, bicByte, isinByte}
 use Rattle.entries.specs.Entered.{Kept, Keeps}
-use Rattle.entries.proofs.Laws.{all-read, same-from, same-below}
+use Rattle.entries.proofs.Laws.{all-read, same-as}
 
 -- ---- rows by number
 row-within : {A : Type 0} (l : List A) (i : ℕ) (x : A) → getElem? l i ≡ some x → i < length l
@@ -65,16 +65,10 @@ module _ (b : List ℕ) (r : Rows) (h : Named b r) where
   isin-byte s x g e k l = byte-within b (isins + isinSize * s + k) (omega arith) ∙ (h .isins s k g l ∙ ap (λ o. isinByte o k) e)
 
   same-bics : (y : List ℕ) (c : ℕ) (x : Csd) → c < csdLimit → getElem? (r .csds) c ≡ some x → sameBic (bicOf b c) y ≡ sameBic (x .bic) y
-  unfolding sameBic
-  same-bics y c x g e =
-      sym (same-from b y (bicSize * c) bicSize 8 (omega arith))
-      ∙ same-below 8 (λ k. eqb (nameByte b (bicSize * c + k)) (byteAt y k)) (λ k. eqb (byteAt (x .bic) k) (byteAt y k)) (λ k l. rw (bic-byte c x g e k (omega arith)))
+  same-bics y c x g e = same-as b (x .bic) y (bicSize * c) bicSize (bic-byte c x g e)
 
   same-isins : (y : List ℕ) (s : ℕ) (x : Security) → s < securityLimit → getElem? (r .securities) s ≡ some x → sameIsin (isinOf b s) y ≡ sameIsin (x .isin) y
-  unfolding sameIsin
-  same-isins y s x g e =
-      sym (same-from b y (isins + isinSize * s) isinSize isinSize (omega arith))
-      ∙ same-below isinSize (λ k. eqb (nameByte b (isins + isinSize * s + k)) (byteAt y k)) (λ k. eqb (byteAt (x .isin) k) (byteAt y k)) (λ k l. rw (isin-byte s x g e k l))
+  same-isins y s x g e = same-as b (x .isin) y (isins + isinSize * s) isinSize (isin-byte s x g e)
 
 -- ---- an ISIN has 12 bytes
 isin-long : (i : List ℕ) → isIsin i ≡ true → isinSize ≤ length i

@@ -13,7 +13,7 @@ use lib.ListN.{length, getD, set, drop}
 use lib.Seq.{ext-getD, drop-cons, drop-length, getD-set-same, getD-set-other}
 use Rattle.rules.specs.declared.Answer.the-variants.{Refused}
 use Rattle.rules.specs.Tests.{allBelow}
-use Rattle.rules.specs.Identifiers.{byteAt}
+use Rattle.rules.specs.Identifiers.{byteAt, sameBytes}
 use Rattle.rules.proofs.Basics.{or-right}
 use Rattle.entries.specs.Names.{nameByte, withByte, withBytes, bytesFrom, anyBelow}
 use Rattle.entries.specs.Entered.{answered, left}
@@ -57,16 +57,23 @@ pub all-read : (b l : List ℕ) (p n : ℕ) → length l ≡ n → ((k : ℕ) �
 all-read b l p n e f =
     ext-getD 0 l (bytesFrom b p n) (e ∙ sym (from-length b p n)) (λ k h. f k (omega arith) ∙ sym (from-at b p n k (omega arith)))
 
--- ---- the first m of them are those of x
-pub same-below : (n : ℕ) (p q : ℕ → Bool) → ((k : ℕ) → k < n → p k ≡ q k) → allBelow n p ≡ allBelow n q
+-- ---- n of them compared with those of x
+same-below : (n : ℕ) (p q : ℕ → Bool) → ((k : ℕ) → k < n → p k ≡ q k) → allBelow n p ≡ allBelow n q
 same-below zero p q h = refl
 same-below (suc n) p q h = rw (same-below n p q (λ k g. h k (omega arith)), h n (omega arith))
 
-pub same-from : (b x : List ℕ) (p n m : ℕ) → m ≤ n
-    → allBelow m (λ k. eqb (nameByte b (p + k)) (byteAt x k)) ≡ allBelow m (λ k. eqb (byteAt (bytesFrom b p n) k) (byteAt x k))
-same-from b x p n m h =
-    same-below m (λ k. eqb (nameByte b (p + k)) (byteAt x k)) (λ k. eqb (byteAt (bytesFrom b p n) k) (byteAt x k))
-    (λ k g. rw (from-at b p n k (omega arith)))
+pub same-from : (b x : List ℕ) (p n : ℕ) → allBelow n (λ k. eqb (nameByte b (p + k)) (byteAt x k)) ≡ sameBytes n (bytesFrom b p n) x
+unfolding sameBytes
+same-from b x p n =
+    same-below n (λ k. eqb (nameByte b (p + k)) (byteAt x k)) (λ k. eqb (byteAt (bytesFrom b p n) k) (byteAt x k))
+    (λ k g. rw (from-at b p n k g))
+
+-- they are those of a, which may be longer
+pub same-as : (b a x : List ℕ) (p n : ℕ) → ((k : ℕ) → k < n → nameByte b (p + k) ≡ byteAt a k) → sameBytes n (bytesFrom b p n) x ≡ sameBytes n a x
+unfolding sameBytes
+same-as b a x p n h =
+    same-below n (λ k. eqb (byteAt (bytesFrom b p n) k) (byteAt x k)) (λ k. eqb (byteAt a k) (byteAt x k))
+    (λ k g. rw (from-at b p n k g, h k g))
 
 -- ---- some number below n passes the test
 module _ (p : ℕ → Bool) where

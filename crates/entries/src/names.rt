@@ -8,20 +8,15 @@ use rules::CSDS;
 use rules::ISIN;
 use rules::SECURITIES;
 ghost use mathlib.Core.Path.{_≡_};
-ghost use Prim.Native.Nat.{_+_, _≤_, _<_};
-ghost use lib.Dec.{eqb};
+ghost use Prim.Native.Nat.{_≤_, _<_};
 ghost use lib.ListN.{length};
-ghost use Rattle.rules.specs.Tests.{allBelow};
-ghost use Rattle.rules.specs.Identifiers.{byteAt};
-ghost use Rattle.entries.specs.Names.{namesSize, nameByte, withByte, withBytes, isinOf, bicIn, isinIn};
+ghost use Rattle.rules.specs.Identifiers.{sameBytes};
+ghost use Rattle.entries.specs.Names.{namesSize, nameByte, withByte, withBytes, bytesFrom, isinOf, bicIn, isinIn};
 
 // Where the ISINs begin, and how many bytes there are.
 pub const ISINS: usize = BIC * CSDS;
 
 pub const NAMES: usize = ISINS + ISIN * SECURITIES;
-
-// Bytes of a BIC that decide whether two are the same.
-const SAME_BIC: usize = 8;
 
 // The byte at a place, 0 behind the end.
 fn name_byte(names: &[u8; NAMES], place: usize) -> u8
@@ -57,7 +52,7 @@ pub(crate) fn put_bytes(names: &mut [u8; NAMES], place: usize, bytes: &[u8])
 // Whether the first `count` bytes stand from the place on.
 fn same_at(names: &[u8; NAMES], place: usize, bytes: &[u8], count: usize) -> bool
     requires { ⌜ (count ≤ length (now bytes)) × (place < namesSize) × (count < 256) ⌝ }
-    ensures { λ r. ⌜ r ≡ allBelow count (λ k. eqb (nameByte (now (names .entry)) (place + k)) (byteAt (now (bytes .entry)) k)) ⌝ }
+    ensures { λ r. ⌜ r ≡ sameBytes count (bytesFrom (now (names .entry)) place count) (now (bytes .entry)) ⌝ }
 {
     let mut i: usize = 0;
     while i < count {
@@ -79,7 +74,7 @@ pub fn bic_entered(index: &[u16; INDEX], names: &[u8; NAMES], bic: [u8; BIC]) ->
         if n <= i {
             return false;
         }
-        if same_at(names, BIC * i, &bic, SAME_BIC) {
+        if same_at(names, BIC * i, &bic, BIC) {
             return true;
         }
         i += 1;

@@ -56,7 +56,7 @@ module _ (cs : List Csd) (x : Csd) where
   twice : Says (CsdRefused cs x 9) (bicEntered cs (x .bic))
   twice = says-as (says-bic-entered cs (x .bic)) (λ h. Refusals.bicEntered (h .0) (h .1) (h .2)) from
     where
-      from : CsdRefused cs x 9 → (y : Csd) × List·Memᴰ y cs × Refusals.Same 8 (y .bic) (x .bic)
+      from : CsdRefused cs x 9 → (y : Csd) × List·Memᴰ y cs × Refusals.Same 11 (y .bic) (x .bic)
       from (Refusals.bicEntered y m s) = (y, m, s)
 
   pub csd-renders : Renders (CsdRefused cs x) (csdConditions (isFull csdLimit cs) (bicEntered cs) x) entryPlaces

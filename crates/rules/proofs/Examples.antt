@@ -3,7 +3,7 @@ use mathlib.Core.Path.{_≡_, refl}
 use mathlib.Core.Bool.{true}
 use mathlib.Core.List.{map}
 use Rattle.rules.specs.Tests.{isRow, isFull}
-use Rattle.rules.specs.Identifiers.{isBic, sameBic, isIsin, sameIsin, spread, alternating, isinSum, isinChecks}
+use Rattle.rules.specs.Identifiers.{isBic, sameBytes, isIsin, spread, alternating, isinSum, isinChecks}
 use Rattle.rules.specs.Directory
 use Rattle.rules.specs.Lookups
 use Rattle.rules.specs.Entries
@@ -12,7 +12,7 @@ use Rattle.rules.specs.Chain
 use Rattle.rules.specs.Booking
 use Rattle.rules.specs.Calls
 use Rattle.rules.specs.Stream
-use Rattle.rules.specs.Requests.{SidedSample}
+use Rattle.rules.specs.Requests.{SidedSample, BranchesEntered}
 use Rattle.rules.proofs.Identifiers.{left-is-right}
 use Rattle.rules.specs.Examples.{Example, examples, drawn, derived, sampleCalls, sampleAnswers, samplePositions, sampleInput, sampleOutput, Starred, IsinShown, SampleShown}
 
@@ -23,7 +23,7 @@ chains = refl
 
 -- each of these directories is sound
 sound-examples : map (λ (e : Example). Entries.soundRows (drawn (e .links))) examples ≡ map (λ (e : Example). true) examples
-unfolding examples isRow isFull isBic sameBic isIsin sameIsin spread alternating isinSum isinChecks Directory.external Directory.isKind Directory.inBooks Directory.isJoined Directory.isPaired Directory.hasLink Directory.hasIssuer Directory.hasInvestor Directory.hasLinkTo Directory.bicEntered Entries.csdRefusal Directory.isinEntered Entries.securityRefusal Entries.accountRefusal Entries.pairRefusal Entries.linkRefusal Entries.csdsSound Entries.securitiesSound Entries.accountsSound Entries.pairsSound Entries.linksSound Entries.soundRows
+unfolding examples isRow isFull isBic sameBytes isIsin spread alternating isinSum isinChecks Directory.external Directory.isKind Directory.inBooks Directory.isJoined Directory.isPaired Directory.hasLink Directory.hasIssuer Directory.hasInvestor Directory.hasLinkTo Directory.bicEntered Entries.csdRefusal Directory.isinEntered Entries.securityRefusal Entries.accountRefusal Entries.pairRefusal Entries.linkRefusal Entries.csdsSound Entries.securitiesSound Entries.accountsSound Entries.pairsSound Entries.linksSound Entries.soundRows
 sound-examples = refl
 
 pub starred : Starred
@@ -33,13 +33,17 @@ pub isin-shown : IsinShown
 unfolding spread alternating isinSum isinChecks
 isin-shown = record { examples = refl; rule = left-is-right }
 
--- the sample run's thirteen answers, the positions that it leaves, and the text that it prints; and the texts with the sides written out
-samples : SampleShown × SidedSample
-unfolding sampleCalls sampleAnswers samplePositions isRow isFull isBic sameBic isIsin sameIsin spread alternating isinSum isinChecks defaultHop directedHop walk Directory.external Directory.isKind Directory.inBooks Directory.pairOf Directory.isJoined Directory.isPaired Directory.hasLink Directory.hasIssuer Directory.hasInvestor Directory.hasLinkTo Directory.issuerLink Directory.defaultLink Directory.bicEntered Entries.csdRefusal Directory.isinEntered Entries.securityRefusal Entries.accountRefusal Entries.pairRefusal Entries.linkRefusal Entries.emptyDirectory Entries.csdsSound Entries.securitiesSound Entries.accountsSound Entries.pairsSound Entries.linksSound Entries.withinLimits Entries.soundRows Entries.sound Chain.isNamed Chain.firstShared Chain.upTo Chain.route Chain.climb Chain.turned Chain.lastOf Lookups.issuance Lookups.homeOf Chain.chain Booking.beyond Booking.position Booking.balance Booking.addUnits Booking.addCents Booking.moved Booking.booked Booking.unitsShort Booking.unitsBeyond Booking.cashShort Booking.cashBeyond Booking.paid Booking.paymentBeyond Booking.contra Booking.moveChain Booking.sum Calls.misfit Calls.desk Calls.zeros Calls.emptyStore sampleInput sampleOutput Stream.numberAt Stream.callOf Stream.nextOf Stream.digits Stream.signed Stream.stepLine Stream.stepLines Stream.answerText Stream.said Stream.totalLine Stream.totalLines Stream.cashLine Stream.ending Stream.linesFrom Stream.transcript
-samples = (record { answers = refl; positions = refl; text = refl }, record { settled = refl; derived = refl })
+-- the sample run's thirteen answers, the positions that it leaves, and the text that it prints; the texts with the sides written out; and the answers to
+-- entries of branches
+samples : SampleShown × SidedSample × BranchesEntered
+unfolding sampleCalls sampleAnswers samplePositions isRow isFull isBic sameBytes isIsin spread alternating isinSum isinChecks defaultHop directedHop walk Directory.external Directory.isKind Directory.inBooks Directory.pairOf Directory.isJoined Directory.isPaired Directory.hasLink Directory.hasIssuer Directory.hasInvestor Directory.hasLinkTo Directory.issuerLink Directory.defaultLink Directory.bicEntered Entries.csdRefusal Directory.isinEntered Entries.securityRefusal Entries.accountRefusal Entries.pairRefusal Entries.linkRefusal Entries.emptyDirectory Entries.csdsSound Entries.securitiesSound Entries.accountsSound Entries.pairsSound Entries.linksSound Entries.withinLimits Entries.soundRows Entries.sound Chain.isNamed Chain.firstShared Chain.upTo Chain.route Chain.climb Chain.turned Chain.lastOf Lookups.issuance Lookups.homeOf Chain.chain Booking.beyond Booking.position Booking.balance Booking.addUnits Booking.addCents Booking.moved Booking.booked Booking.unitsShort Booking.unitsBeyond Booking.cashShort Booking.cashBeyond Booking.paid Booking.paymentBeyond Booking.contra Booking.moveChain Booking.sum Calls.misfit Calls.desk Calls.zeros Calls.emptyStore sampleInput sampleOutput Stream.numberAt Stream.callOf Stream.nextOf Stream.digits Stream.signed Stream.stepLine Stream.stepLines Stream.answerText Stream.said Stream.totalLine Stream.totalLines Stream.cashLine Stream.ending Stream.linesFrom Stream.transcript
+samples = (record { answers = refl; positions = refl; text = refl }, record { settled = refl; derived = refl }, record { answers = refl })
 
 pub sample-shown : SampleShown
 sample-shown = samples .0
 
 pub sided-sample : SidedSample
 sided-sample = samples .1
+
+pub branches-entered : BranchesEntered
+branches-entered = samples .2

@@ -19,6 +19,7 @@ pub mod SettleRelation
 pub mod Ruling
 pub mod FirstRow
 pub mod Identifiers
+pub mod Branches
 pub mod Examples
 pub mod Facts
 pub mod Trail

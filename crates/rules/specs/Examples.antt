@@ -88,7 +88,7 @@ linkFor (c ⟶ n) = record { security = 0; kind = 1; csd = c; technical = n; fla
 linkFor (c ⇢ n) = record { security = 0; kind = 1; csd = c; technical = n; flag = 0; account = noAccount }
 
 -- a CSD of a type and BIC
-abbrev csdAs : ℕ → List ℕ → Csd
+abbrev pub csdAs : ℕ → List ℕ → Csd
 csdAs t name = record { external = t; bic = name }
 
 -- the rows of an example's directory

@@ -1,4 +1,4 @@
--- BIC and ISIN, as document 01 has them under "The directory". Assumes nothing.
+-- BIC and ISIN, as document 01 has them under "The directory", with ask 2 of document 02. Assumes nothing.
 use Prim.Native.Nat.{ℕ, _+_, _*_, _-_, _/_, _%_}
 use mathlib.Core.Bool.{Bool, true, false, _&&_, _||_, cond}
 use mathlib.Core.List.{List, [], _∷_, _++_, reverse}
@@ -22,21 +22,25 @@ capitalOrDigit c = capital c || digit c
 abbrev pub byteAt : List ℕ → ℕ → ℕ
 byteAt b k = getD b k 0
 
+-- the first n bytes are the same
+unfoldable pub sameBytes : ℕ → List ℕ → List ℕ → Bool
+sameBytes n a b = allBelow n (λ k. eqb (byteAt a k) (byteAt b k))
+
 -- "BIC of 11 capitals or digits"
 unfoldable pub isBic : List ℕ → Bool
 isBic b = allBelow 11 (λ k. capitalOrDigit (byteAt b k))
 
--- "Two BICs are the same when their first 8 bytes are."
-unfoldable pub sameBic : List ℕ → List ℕ → Bool
-sameBic a b = allBelow 8 (λ k. eqb (byteAt a k) (byteAt b k))
+-- "All 11 bytes decide from now on whether two BICs are the same; three capitals X are a branch like any other."
+abbrev pub sameBic : List ℕ → List ℕ → Bool
+sameBic a b = sameBytes 11 a b
 
 -- "two capital letters, nine capitals or digits, one check digit"
 unfoldable pub isIsin : List ℕ → Bool
 isIsin i = allBelow 2 (λ k. capital (byteAt i k)) && (allBelow 9 (λ k. capitalOrDigit (byteAt i (2 + k))) && digit (byteAt i 11))
 
 -- two ISINs are the same when all 12 bytes are
-unfoldable pub sameIsin : List ℕ → List ℕ → Bool
-sameIsin a b = allBelow 12 (λ k. eqb (byteAt a k) (byteAt b k))
+abbrev pub sameIsin : List ℕ → List ℕ → Bool
+sameIsin a b = sameBytes 12 a b
 
 -- ---- the check digit, over a list of characters of any length
 

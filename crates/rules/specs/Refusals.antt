@@ -87,8 +87,8 @@ pub data CsdRefused (cs : List Csd) (x : Csd) : ℕ → Type 0 where
   csdsFull : csdLimit ≤ length cs → CsdRefused cs x 5
   neitherType : x .external ≢ 0 → x .external ≢ 1 → CsdRefused cs x 7
   noBic : (k : ℕ) → k < 11 → (CapitalOrDigit (byteAt (x .bic) k) → ⊥) → CsdRefused cs x 7
-  -- "Two BICs are the same when their first 8 bytes are."
-  bicEntered : (y : Csd) → List·Memᴰ y cs → Same 8 (y .bic) (x .bic) → CsdRefused cs x 9
+  -- "All 11 bytes decide from now on whether two BICs are the same"
+  bicEntered : (y : Csd) → List·Memᴰ y cs → Same 11 (y .bic) (x .bic) → CsdRefused cs x 9
 
 -- 02: a security
 pub data SecurityRefused (ss : List Security) (x : Security) : ℕ → Type 0 where

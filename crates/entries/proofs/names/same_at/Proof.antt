@@ -1,6 +1,6 @@
 -- The loop's invariant: the bytes passed stand in the list.
 use Prim.Native.Nat.{ℕ, _+_, _≤_, _-_}
-use mathlib.Core.Path.{_≡_, refl, sym}
+use mathlib.Core.Path.{_≡_, refl, sym, _∙_}
 use mathlib.Core.Bool.{Bool, true}
 use mathlib.Core.List.{List}
 use lib.Dec.{eqb}
@@ -9,6 +9,7 @@ use Rattle.rules.specs.Tests.{allBelow}
 use Rattle.rules.specs.Identifiers.{byteAt}
 use Rattle.index.proofs.Laws.{all-more, all-miss}
 use Rattle.entries.specs.Names.{nameByte}
+use Rattle.entries.proofs.Laws.{same-from}
 use borrow.Author.Needs.{needs}
 use native.Mathlib.Omega.{arith}
 use Rattle.entries.proofs.names.same_at.Statement.{statement}
@@ -42,6 +43,7 @@ returns c =
     let a = l .before .before .args in
     let other = rw (c .before .before .name-byte .ensures) at (ne-eqb _ _ (c .if1 .taken)) in
     sym (all-miss (sameAt (a .names .now) (a .place) (a .bytes .now)) (a .count) (l .loop .i) (omega arith) other)
+    ∙ same-from (a .names .now) (a .bytes .now) (a .place) (a .count)
 
 add-i : tie.Need-add-i Inv-loop μ-loop
 add-i c = omega arith
@@ -59,8 +61,9 @@ loop-again c =
 returns-2 : tie.Need-returns-2 Inv-loop μ-loop
 returns-2 c =
     let l = c .before in
-    let e : l .loop .i ≡ l .before .before .args .count = omega arith in
-    sym (rw e at (l .loop .inv .1))
+    let a = l .before .before .args in
+    let e : l .loop .i ≡ a .count = omega arith in
+    sym (rw e at (l .loop .inv .1)) ∙ same-from (a .names .now) (a .bytes .now) (a .place) (a .count)
 
 pub same-at-spec : {M : Type 1} → statement M
 same-at-spec =
