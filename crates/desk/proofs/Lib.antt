@@ -1,6 +1,1 @@
-pub mod Stored
-pub mod Lent
-pub mod Before
-pub mod Admitted
-pub mod Entries
-pub mod Decided
+pub mod Serving

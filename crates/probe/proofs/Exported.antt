@@ -27,7 +27,7 @@ use Rattle.rules.specs.Calls.{Halves, Outcome, desk, isAccepted, lentSteps, des
 use Rattle.rules.specs.Stream.{callOf}
 use Rattle.rules.specs.Outcomes.{holding, settlementOn, derivationOn, blanks, byValue, replyOf}
 use Rattle.rules.proofs.Basics.{eqb-true, eqb-false, and-true, and-untrue}
-use Rattle.desk.proofs.Lent as Lent
+use Rattle.desk.proofs.Serving as Serving
 use Rattle.layout.specs.Layout.{countsLength, rowsLength, directoryIn, countsOf, bytesOf, bytesIn, bytesOfSteps, filled, withSteps, stepsPut}
 use Rattle.layout.proofs.Bytes.{fills, steps-fit}
 use Rattle.probe.specs.Codes.{misfit, codeOf, unitsCode, centsCode}
@@ -202,7 +202,7 @@ module _ (counts rows : List ℕ) where
         pub derived : isDerivation tag ≡ true → r ≡ replyOf (derivationOn d (stepsLent steps) hs) → Derives tag counts rows o steps code bytes
         derived t i =
             let f : fits counts rows ≡ true = fit in
-            let v = Lent.serves (holding d [] []) hs Lent.derives (stepsLent steps) (stepsLent steps) refl r i in
+            let v = Serving.serves (holding d [] []) hs Serving.derives (stepsLent steps) (stepsLent steps) refl r i in
             let w = written (derivationOn d (stepsLent steps) hs) i (v .few) (v .room) in (
               rw f (a .0 ∙ ap (λ (y : Reply). codeOf (y .answer)) i ∙ ap (λ (x : Outcome). codeOf (x .answer)) (derives-is t)),
               rw f (w ∙ ap (λ (x : Outcome). withSteps (chainOf x) steps) (derives-is t)),
@@ -215,7 +215,7 @@ module _ (counts rows : List ℕ) where
             → Settles tag counts rows positions cash o steps code p c bytes
         settled t positions cash p c i =
             let f : fits counts rows ≡ true = fit in
-            let v = Lent.serves (holding d positions cash) hs Lent.settles (stepsLent steps) (stepsLent steps) refl r (i .0) in
+            let v = Serving.serves (holding d positions cash) hs Serving.settles (stepsLent steps) (stepsLent steps) refl r (i .0) in
             let w = written (settlementOn d positions cash (stepsLent steps) hs) (i .0) (v .few) (v .room) in
             let x = settles-is t positions cash in (
               rw f (a .0 ∙ ap (λ (y : Reply). codeOf (y .answer)) (i .0) ∙ ap (λ (y : Outcome). codeOf (y .answer)) x),
