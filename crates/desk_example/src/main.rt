@@ -1,6 +1,18 @@
 // Document 01's examples by the desk's functions alone: its chains by example, then its worked example, booked and taken back.
 // A drawing has a link for each three bytes: `A>C` is a default link, `A~B` an alternative, `I=I` an issuer.
 use desk::empty;
+use examples::after;
+use examples::csd;
+use examples::link;
+use examples::pair;
+use examples::put;
+use examples::put_number;
+use examples::put_numbers;
+use examples::put_signed;
+use examples::with_account;
+use examples::with_csd;
+use examples::with_link;
+use examples::with_pair;
 use rules::ACCOUNTS;
 use rules::Account;
 use rules::Answer;
@@ -14,38 +26,17 @@ use rules::Security;
 
 // ---- what is printed
 
-fn put(text: &[u8]) {
-    io::write_all(libc::STDOUT_FILENO, text);
-}
-
-// A number after a word.
-fn put_number(word: &[u8], n: u64) {
-    put(word);
-    io::print_decimal(libc::STDOUT_FILENO, n);
-}
-
-fn put_signed(word: &[u8], x: i64) {
-    put(word);
-    if x < 0 {
-        put_number(b"-", ((-1 - x) as u64) + 1);
-    } else {
-        put_number(b"", x as u64);
-    }
+fn put_answer(answer: Answer) {
+    examples::put_answer(answer);
+    put(b"\n");
 }
 
 // "K steps mean 2 × K − 2 generated instructions."
-fn put_answer(answer: Answer) {
-    match answer {
-        Answer::Accepted => put(b"ok"),
-        Answer::Booked(count) => put_number(b"booked ", count as u64),
-        Answer::Chained(count) => {
-            put_number(b"chain ", count as u64);
-            match count {
-                1..=STEPS => put_number(b", generated ", (2 * count - 2) as u64),
-                _ => put(b""),
-            }
-        }
-        Answer::Refused(number) => put_number(b"no ", number as u64),
+fn put_chain(answer: Answer) {
+    let count = examples::put_answer(answer);
+    match count {
+        1..=STEPS => put_number(b", generated ", (2 * count - 2) as u64),
+        _ => put(b""),
     }
     put(b"\n");
 }
@@ -58,8 +49,7 @@ fn put_step(names: &[u8; 8], step: rules::Step, line: bool) {
         return;
     }
     put(&name);
-    put_number(b"", step.debited as u64);
-    put_number(b" ", step.credited as u64);
+    put_numbers(b"", step.debited as u64, b" ", step.credited as u64);
     put(b"\n");
 }
 
@@ -71,33 +61,6 @@ fn put_steps(names: &[u8; 8], steps: rules::Steps, lines: bool) {
         }
         put_step(names, steps.rows[i], lines);
         i += 1;
-    }
-}
-
-// A CSD by one byte of its BIC.
-fn csd(external: u8, byte: u8) -> rules::Csd {
-    let mut bic = *b"AAAAXX00XXX";
-    bic[7] = byte;
-    rules::Csd { external, bic }
-}
-
-fn pair(investor: u8, technical: u8, mirror: u16, omnibus: u16) -> rules::Pair {
-    rules::Pair {
-        investor,
-        technical,
-        mirror,
-        omnibus,
-    }
-}
-
-fn link(kind: u8, csd: u8, technical: u8, flag: u8, account: u16) -> rules::Link {
-    rules::Link {
-        security: 0,
-        kind,
-        csd,
-        technical,
-        flag,
-        account,
     }
 }
 
@@ -123,52 +86,43 @@ fn csd_of(letter: u8) -> u8 {
     }
 }
 
-fn after(entered: rules::Entered) -> Directory {
-    entered.directory
-}
-
-fn with_account(directory: Directory, csd: u8, kind: u8) -> Directory {
-    after(desk::enter_account(directory, Account { csd, kind }))
-}
-
 // A CSD in T2S with two participants and an issuance account: those of the CSD c are 3c, 3c + 1 and 3c + 2.
-fn with_csd(directory: Directory, letter: u8) -> Directory {
+fn with_accounts(directory: Directory, letter: u8) -> Directory {
     let at = csd_of(letter);
-    let one = with_account(after(desk::enter_csd(directory, csd(0, letter))), at, 0);
+    let one = with_account(with_csd(directory, csd(0, letter)), at, 0);
     with_account(with_account(one, at, 0), at, 4)
 }
 
 fn start() -> Directory {
-    let b = with_csd(with_csd(empty(), b'A'), b'B');
-    let d = with_csd(with_csd(b, b'C'), b'D');
-    let j = with_csd(with_csd(d, b'I'), b'J');
-    let x = after(desk::enter_csd(j, csd(1, b'X')));
-    let y = after(desk::enter_csd(x, csd(1, b'Y')));
+    let b = with_accounts(with_accounts(empty(), b'A'), b'B');
+    let d = with_accounts(with_accounts(b, b'C'), b'D');
+    let j = with_accounts(with_accounts(d, b'I'), b'J');
+    let y = with_csd(with_csd(j, csd(1, b'X')), csd(1, b'Y'));
     let isin = *b"XS0000000009";
     after(desk::enter_security(y, Security { isin }))
 }
 
 // The pair of two CSDs, with new accounts, numbered by the count of those entered.
-fn with_pair(directory: Directory, csd: u8, technical: u8) -> Directory {
+fn paired(directory: Directory, csd: u8, technical: u8) -> Directory {
     let new = (directory.accounts.count % ACCOUNTS) as u16;
     if csd_of(b'X') <= technical {
         let inter = with_account(directory, csd, 3);
-        return after(desk::enter_pair(inter, pair(csd, technical, new, NO_ACCOUNT)));
+        return with_pair(inter, pair(csd, technical, new, NO_ACCOUNT));
     }
     let both = with_account(with_account(directory, csd, 2), technical, 1);
-    after(desk::enter_pair(both, pair(csd, technical, new, new + 1)))
+    with_pair(both, pair(csd, technical, new, new + 1))
 }
 
 fn drawn_link(directory: Directory, from: u8, sign: u8, to: u8) -> Directory {
     let csd = csd_of(from);
     if sign == b'=' {
         let issuance = 3 * (csd as u16) + 2;
-        return after(desk::enter_link(directory, link(0, csd, NO_CSD, 1, issuance)));
+        return with_link(directory, link(0, csd, NO_CSD, 1, issuance));
     }
     let technical = csd_of(to);
-    let paired = with_pair(directory, csd, technical);
     let flag = (sign == b'>') as u8;
-    after(desk::enter_link(paired, link(1, csd, technical, flag, NO_ACCOUNT)))
+    let row = link(1, csd, technical, flag, NO_ACCOUNT);
+    with_link(paired(directory, csd, technical), row)
 }
 
 fn drawn(drawing: &[u8]) -> Directory {
@@ -192,7 +146,7 @@ fn show(letter: u8, drawing: &[u8]) {
     put(drawing);
     put(b": ");
     put_steps(b"ABCDIJXY", reply.steps, false);
-    put_answer(answer);
+    put_chain(answer);
     put_steps(b"ABCDIJXY", reply.steps, true);
 }
 

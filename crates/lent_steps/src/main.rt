@@ -1,8 +1,20 @@
 // Derivation and settlement in a lent list of steps that is longer than any chain and full of other numbers. After each call the steps behind the K that
 // it writes, or all of them where it refuses, are held against what they were. The list is filled anew for each call.
 use desk::empty;
+use examples::after;
+use examples::csd;
+use examples::link;
+use examples::pair;
+use examples::put;
+use examples::put_answer;
+use examples::put_number;
+use examples::put_numbers;
+use examples::put_step;
+use examples::with_account;
+use examples::with_csd;
+use examples::with_link;
+use examples::with_pair;
 use rules::ACCOUNTS;
-use rules::Account;
 use rules::Answer;
 use rules::Directory;
 use rules::Half;
@@ -166,50 +178,14 @@ fn untouched(back: Back, count: usize) -> usize {
 
 // ---- what is printed
 
-fn put(text: &[u8]) {
-    io::write_all(libc::STDOUT_FILENO, text);
-}
-
-// A number after a word.
-fn put_number(word: &[u8], n: u64) {
-    put(word);
-    io::print_decimal(libc::STDOUT_FILENO, n);
-}
-
 fn put_steps(back: Back, count: usize) {
     let mut i: usize = 0;
     while i < LIST {
         if count <= i {
             return;
         }
-        let step = back.steps[i];
-        put_number(b"- ", step.csd as u64);
-        put_number(b" ", step.debited as u64);
-        put_number(b" ", step.credited as u64);
-        put(b"\n");
+        put_step(back.steps[i]);
         i += 1;
-    }
-}
-
-// The answer, and K.
-fn put_answer(answer: Answer) -> usize {
-    match answer {
-        Answer::Accepted => {
-            put(b"ok");
-            0
-        }
-        Answer::Booked(count) => {
-            put_number(b"booked ", count as u64);
-            count
-        }
-        Answer::Chained(count) => {
-            put_number(b"chain ", count as u64);
-            count
-        }
-        Answer::Refused(number) => {
-            put_number(b"no ", number as u64);
-            0
-        }
     }
 }
 
@@ -227,74 +203,41 @@ fn put_back(back: Back) {
 
 // ---- the directory
 
-fn entered(entered: rules::Entered) -> Directory {
-    entered.directory
-}
-
-// A CSD in T2S by one byte of its BIC.
-fn with_csd(directory: Directory, byte: u8) -> Directory {
-    let mut bic = *b"AAAAXX00XXX";
-    bic[7] = byte;
-    entered(desk::enter_csd(directory, rules::Csd { external: 0, bic }))
-}
-
-fn with_account(directory: Directory, csd: u8, kind: u8) -> Directory {
-    entered(desk::enter_account(directory, Account { csd, kind }))
-}
-
 // An investor CSD with its technical issuer: their pair, and a default link.
-fn with_pair(
+fn joined(
     directory: Directory,
     investor: u8,
     technical: u8,
     mirror: u16,
     omnibus: u16,
 ) -> Directory {
-    let pair = rules::Pair {
-        investor,
-        technical,
-        mirror,
-        omnibus,
-    };
-    let link = rules::Link {
-        security: 0,
-        kind: 1,
-        csd: investor,
-        technical,
-        flag: 1,
-        account: NO_ACCOUNT,
-    };
-    entered(desk::enter_link(entered(desk::enter_pair(directory, pair)), link))
-}
-
-fn with_issuer(directory: Directory, csd: u8, account: u16) -> Directory {
-    let link = rules::Link {
-        security: 0,
-        kind: 0,
-        csd,
-        technical: NO_CSD,
-        flag: 1,
-        account,
-    };
-    entered(desk::enter_link(directory, link))
+    let row = link(1, investor, technical, 1, NO_ACCOUNT);
+    with_link(
+        with_pair(directory, pair(investor, technical, mirror, omnibus)),
+        row,
+    )
 }
 
 // The worked example: CSD 0 has the participant 0 and the mirror 1; CSD 1 has the omnibus 2, the issuance account 3 and the participant 4.
 fn worked() -> Directory {
-    let csds = with_csd(with_csd(empty(), b'0'), b'1');
+    let csds = with_csd(with_csd(empty(), csd(0, b'0')), csd(0, b'1'));
     let isin = *b"XS0000000009";
-    let listed = entered(desk::enter_security(csds, Security { isin }));
+    let listed = after(desk::enter_security(csds, Security { isin }));
     let first = with_account(with_account(listed, 0, 0), 0, 2);
     let second = with_account(with_account(with_account(first, 1, 1), 1, 4), 1, 0);
-    with_pair(with_issuer(second, 1, 3), 0, 1, 1, 2)
+    let issued = with_link(second, link(0, 1, NO_CSD, 1, 3));
+    joined(issued, 0, 1, 1, 2)
 }
 
 // CSD 1 has another participant, 5; CSD 2, with the participant 6 and the mirror 7, is an investor in it by the omnibus 8; CSD 3, with the participant 9,
 // has no link.
 fn wider() -> Directory {
-    let csds = with_csd(with_csd(with_account(worked(), 1, 0), b'2'), b'3');
+    let csds = with_csd(
+        with_csd(with_account(worked(), 1, 0), csd(0, b'2')),
+        csd(0, b'3'),
+    );
     let third = with_account(with_account(with_account(csds, 2, 0), 2, 2), 1, 1);
-    with_pair(with_account(third, 3, 0), 2, 1, 7, 8)
+    joined(with_account(third, 3, 0), 2, 1, 7, 8)
 }
 
 // ---- the calls that are shown
@@ -319,14 +262,21 @@ fn half(account: u16, counterpart: u16, quantity: u64) -> Half {
     }
 }
 
-// The quantity and account of each half, and how many steps are lent.
-fn put_call(word: &[u8], lent: usize, delivering: Half, receiving: Half) {
-    put_number(word, delivering.quantity);
-    put_number(b" from ", delivering.account as u64);
-    put_number(b", ", receiving.quantity);
-    put_number(b" to ", receiving.account as u64);
+fn put_lent(lent: usize) {
     put_number(b", lent ", lent as u64);
     put(b": ");
+}
+
+// The quantity and account of each half, and how many steps are lent.
+fn put_call(word: &[u8], lent: usize, delivering: Half, receiving: Half) {
+    put_numbers(
+        word,
+        delivering.quantity,
+        b" from ",
+        delivering.account as u64,
+    );
+    put_numbers(b", ", receiving.quantity, b" to ", receiving.account as u64);
+    put_lent(lent);
 }
 
 fn show_derive(directory: Directory, lent: usize, delivering: Half, receiving: Half)
@@ -368,12 +318,19 @@ fn sided(side: u8, account: u16, counterpart: u16) -> SidedHalf {
 // The side and account of each half, and how many steps are lent.
 fn put_sided_call(word: &[u8], lent: usize, first: SidedHalf, second: SidedHalf) {
     put(word);
-    put_number(b"side ", first.side as u64);
-    put_number(b" of ", first.half.account as u64);
-    put_number(b", side ", second.side as u64);
-    put_number(b" of ", second.half.account as u64);
-    put_number(b", lent ", lent as u64);
-    put(b": ");
+    put_numbers(
+        b"side ",
+        first.side as u64,
+        b" of ",
+        first.half.account as u64,
+    );
+    put_numbers(
+        b", side ",
+        second.side as u64,
+        b" of ",
+        second.half.account as u64,
+    );
+    put_lent(lent);
 }
 
 fn show_derive_sided(directory: Directory, lent: usize, first: SidedHalf, second: SidedHalf)

@@ -6,10 +6,10 @@ use Rattle.lent_steps.proofs.put_steps.Statement.{statement}
 use Rattle.lent_steps.proofs.put_steps.Tie as tie
 
 abbrev Inv-loop : tie.InvT-loop
-Inv-loop count back i₀ t6 t7 t8 t9 i = i ≤ size
+Inv-loop count back i₀ i = i ≤ size
 
 abbrev μ-loop : tie.MeasureT-loop
-μ-loop count back i₀ t6 t7 t8 t9 i = size - i
+μ-loop count back i₀ i = size - i
 
 loop-holds : tie.Need-loop-holds Inv-loop μ-loop
 loop-holds c = search needs
@@ -17,44 +17,14 @@ loop-holds c = search needs
 returns : tie.Need-returns Inv-loop μ-loop
 returns c = search needs
 
-mul-step : tie.Need-mul-step Inv-loop μ-loop
-mul-step c = search needs
+mul-put-step : tie.Need-mul-put-step Inv-loop μ-loop
+mul-put-step c = search needs
 
-element-copy-out-step : tie.Need-element-copy-out-step Inv-loop μ-loop
-element-copy-out-step c = search needs
+element-copy-out-put-step : tie.Need-element-copy-out-put-step Inv-loop μ-loop
+element-copy-out-put-step c = search needs
 
-slice-aggregate-put-number : tie.Need-slice-aggregate-put-number Inv-loop μ-loop
-slice-aggregate-put-number c = search needs
-
-cast-put-number : tie.Need-cast-put-number Inv-loop μ-loop
-cast-put-number c = search needs
-
-put-number-requires : tie.Need-put-number-requires Inv-loop μ-loop
-put-number-requires c κs = search needs
-
-slice-aggregate-put-number-2 : tie.Need-slice-aggregate-put-number-2 Inv-loop μ-loop
-slice-aggregate-put-number-2 c = search needs
-
-cast-put-number-2 : tie.Need-cast-put-number-2 Inv-loop μ-loop
-cast-put-number-2 c = search needs
-
-put-number-requires-2 : tie.Need-put-number-requires-2 Inv-loop μ-loop
-put-number-requires-2 c κs = search needs
-
-slice-aggregate-put-number-3 : tie.Need-slice-aggregate-put-number-3 Inv-loop μ-loop
-slice-aggregate-put-number-3 c = search needs
-
-cast-put-number-3 : tie.Need-cast-put-number-3 Inv-loop μ-loop
-cast-put-number-3 c = search needs
-
-put-number-requires-3 : tie.Need-put-number-requires-3 Inv-loop μ-loop
-put-number-requires-3 c κs = search needs
-
-slice-aggregate-put : tie.Need-slice-aggregate-put Inv-loop μ-loop
-slice-aggregate-put c = search needs
-
-put-requires : tie.Need-put-requires Inv-loop μ-loop
-put-requires c κs = search needs
+put-step-requires : tie.Need-put-step-requires Inv-loop μ-loop
+put-step-requires c κs = search needs
 
 add-i : tie.Need-add-i Inv-loop μ-loop
 add-i c = search needs
@@ -76,19 +46,9 @@ put-steps-spec =
     μ-loop
     loop-holds
     returns
-    mul-step
-    element-copy-out-step
-    slice-aggregate-put-number
-    cast-put-number
-    put-number-requires
-    slice-aggregate-put-number-2
-    cast-put-number-2
-    put-number-requires-2
-    slice-aggregate-put-number-3
-    cast-put-number-3
-    put-number-requires-3
-    slice-aggregate-put
-    put-requires
+    mul-put-step
+    element-copy-out-put-step
+    put-step-requires
     add-i
     loop-less
     loop-again

@@ -11,8 +11,8 @@ use lib.Signed.{ltZ, nonNeg}
 use mir.Syntax.{w64}
 use mir.Val.{Fits, SFits, toZ, ofZ}
 use mir.Facts.{toZ-ofZ}
-use Rattle.desk_example.proofs.put_signed.Statement.{statement}
-use Rattle.desk_example.proofs.put_signed.Tie as tie
+use Rattle.examples.proofs.printing.put_signed.Statement.{statement}
+use Rattle.examples.proofs.printing.put_signed.Tie as tie
 
 -- a number stored and read back
 abbrev stored : ℤ → ℤ

@@ -1,0 +1,80 @@
+// Rows of the examples, and a directory with one of them entered. Where the entry is refused, the directory is as it was.
+use desk::enter_account;
+use desk::enter_csd;
+use desk::enter_link;
+use desk::enter_pair;
+use rules::Account;
+use rules::Csd;
+use rules::Directory;
+use rules::Entered;
+use rules::Link;
+use rules::Pair;
+ghost use mathlib.Core.Path.{_≡_};
+ghost use lib.ListN.{set};
+ghost use Rattle.rules.specs.Stream.{bytes};
+ghost use Rattle.rules.specs.Entries.{csdRow, accountRow, pairRow, linkRow};
+ghost use Rattle.rules.specs.Outcomes.{enteredOn};
+
+// A CSD by one byte of its BIC.
+pub fn csd(external: u8, byte: u8) -> Csd
+    ensures { λ r. ⌜ r ≡ record { external = external; bic = set (bytes "AAAAXX00XXX") 7 byte } ⌝ }
+{
+    let mut bic = *b"AAAAXX00XXX";
+    bic[7] = byte;
+    Csd { external, bic }
+}
+
+pub fn pair(investor: u8, technical: u8, mirror: u16, omnibus: u16) -> Pair
+    ensures { λ r. ⌜ r ≡ record { investor = investor; technical = technical; mirror = mirror; omnibus = omnibus } ⌝ }
+{
+    Pair {
+        investor,
+        technical,
+        mirror,
+        omnibus,
+    }
+}
+
+// A link for the one security.
+pub fn link(kind: u8, csd: u8, technical: u8, flag: u8, account: u16) -> Link
+    ensures { λ r. ⌜ r ≡ record { security = 0; kind = kind; csd = csd; technical = technical; flag = flag; account = account } ⌝ }
+{
+    Link {
+        security: 0,
+        kind,
+        csd,
+        technical,
+        flag,
+        account,
+    }
+}
+
+pub fn after(entered: Entered) -> Directory
+    ensures { λ r. ⌜ r ≡ entered .directory ⌝ }
+{
+    entered.directory
+}
+
+pub fn with_csd(directory: Directory, row: Csd) -> Directory
+    ensures { λ r. ⌜ r ≡ enteredOn directory (csdRow row) .directory ⌝ }
+{
+    after(enter_csd(directory, row))
+}
+
+pub fn with_account(directory: Directory, csd: u8, kind: u8) -> Directory
+    ensures { λ r. ⌜ r ≡ enteredOn directory (accountRow (record { csd = csd; kind = kind })) .directory ⌝ }
+{
+    after(enter_account(directory, Account { csd, kind }))
+}
+
+pub fn with_pair(directory: Directory, row: Pair) -> Directory
+    ensures { λ r. ⌜ r ≡ enteredOn directory (pairRow row) .directory ⌝ }
+{
+    after(enter_pair(directory, row))
+}
+
+pub fn with_link(directory: Directory, row: Link) -> Directory
+    ensures { λ r. ⌜ r ≡ enteredOn directory (linkRow row) .directory ⌝ }
+{
+    after(enter_link(directory, row))
+}
