@@ -68,7 +68,7 @@ same-from b x p n =
     same-below n (λ k. eqb (nameByte b (p + k)) (byteAt x k)) (λ k. eqb (byteAt (bytesFrom b p n) k) (byteAt x k))
     (λ k g. rw (from-at b p n k g))
 
--- they are those of a, which may be longer
+-- where they are the bytes of a, which may be longer
 pub same-as : (b a x : List ℕ) (p n : ℕ) → ((k : ℕ) → k < n → nameByte b (p + k) ≡ byteAt a k) → sameBytes n (bytesFrom b p n) x ≡ sameBytes n a x
 unfolding sameBytes
 same-as b a x p n h =

@@ -1,12 +1,12 @@
 -- The loop's invariant: none of the rows passed has the BIC.
-use Prim.Native.Nat.{ℕ, _*_, _≤_, _-_, min}
+use Prim.Native.Nat.{ℕ, _≤_, _-_, min}
 use mathlib.Core.Path.{_≡_, refl, sym, _∙_}
 use mathlib.Core.Bool.{Bool, false}
 use mathlib.Core.List.{List}
 use Rattle.rules.specs.Identifiers.{sameBic}
 use Rattle.rules.specs.Directory.{csdLimit}
 use Rattle.index.specs.Asked.{read}
-use Rattle.entries.specs.Names.{bicSize, bicOf, anyBelow, bicIn}
+use Rattle.entries.specs.Names.{bicOf, anyBelow, bicIn}
 use Rattle.entries.proofs.Laws.{none-more, any-hit, none-ended}
 use borrow.Author.Needs.{needs}
 use native.Mathlib.Omega.{arith}
