@@ -54,14 +54,14 @@ fn same_at(names: &[u8; NAMES], place: usize, bytes: &[u8], count: usize) -> boo
     requires { ⌜ (count ≤ length (now bytes)) × (place < namesSize) × (count < 256) ⌝ }
     ensures { λ r. ⌜ r ≡ sameBytes count (bytesFrom (now (names .entry)) place count) (now (bytes .entry)) ⌝ }
 {
+    let mut same = true;
     let mut i: usize = 0;
     while i < count {
-        if name_byte(names, place + i) != bytes[i] {
-            return false;
-        }
+        let byte = name_byte(names, place + i);
+        same = same & (byte == bytes[i]);
         i += 1;
     }
-    true
+    same
 }
 
 // Whether the BIC is entered.

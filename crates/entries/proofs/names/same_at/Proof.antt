@@ -1,13 +1,12 @@
--- The loop's invariant: the bytes passed stand in the list.
+-- The loop's invariant: whether the bytes passed stand in the list.
 use Prim.Native.Nat.{ℕ, _+_, _≤_, _-_}
 use mathlib.Core.Path.{_≡_, refl, sym, _∙_}
-use mathlib.Core.Bool.{Bool, true}
+use mathlib.Core.Bool.{Bool}
 use mathlib.Core.List.{List}
+use native.Mathlib.Numerals.{add-one}
 use lib.Dec.{eqb}
-use borrow.Author.Tests.{eq-eqb, ne-eqb}
 use Rattle.rules.specs.Tests.{allBelow}
 use Rattle.rules.specs.Identifiers.{byteAt}
-use Rattle.index.proofs.Laws.{all-more, all-miss}
 use Rattle.entries.specs.Names.{nameByte}
 use Rattle.entries.proofs.Laws.{same-from}
 use borrow.Author.Needs.{needs}
@@ -20,10 +19,10 @@ abbrev sameAt : List ℕ → ℕ → List ℕ → ℕ → Bool
 sameAt names place bytes k = eqb (nameByte names (place + k)) (byteAt bytes k)
 
 abbrev Inv-loop : tie.InvT-loop
-Inv-loop names place bytes count i₀ i = (i ≤ count) × (allBelow i (sameAt names place bytes) ≡ true)
+Inv-loop names place bytes count same₀ i₀ same i = (i ≤ count) × (same ≡ allBelow i (sameAt names place bytes))
 
 abbrev μ-loop : tie.MeasureT-loop
-μ-loop names place bytes count i₀ i = count - i
+μ-loop names place bytes count same₀ i₀ same i = count - i
 
 loop-holds : tie.Need-loop-holds Inv-loop μ-loop
 loop-holds c = (omega arith, refl)
@@ -34,16 +33,8 @@ add-name-byte c = omega arith
 name-byte-requires : tie.Need-name-byte-requires Inv-loop μ-loop
 name-byte-requires c κs = search needs
 
-shared-slice-read-if1 : tie.Need-shared-slice-read-if1 Inv-loop μ-loop
-shared-slice-read-if1 c = search needs
-
-returns : tie.Need-returns Inv-loop μ-loop
-returns c =
-    let l = c .before .before .before .before in
-    let a = l .before .before .args in
-    let other = rw (c .before .before .name-byte .ensures) at (ne-eqb _ _ (c .if1 .taken)) in
-    sym (all-miss (sameAt (a .names .now) (a .place) (a .bytes .now)) (a .count) (l .loop .i) (omega arith) other)
-    ∙ same-from (a .names .now) (a .bytes .now) (a .place) (a .count)
+shared-slice-read-same : tie.Need-shared-slice-read-same Inv-loop μ-loop
+shared-slice-read-same c = search needs
 
 add-i : tie.Need-add-i Inv-loop μ-loop
 add-i c = omega arith
@@ -53,17 +44,15 @@ loop-less c = omega arith
 
 loop-again : tie.Need-loop-again Inv-loop μ-loop
 loop-again c =
-    let l = c .before .before .before .before in
-    let a = l .before .before .args in
-    let same = rw (c .before .before .name-byte .ensures) at (eq-eqb _ _ (c .if1 .left)) in
-    (omega arith, all-more (sameAt (a .names .now) (a .place) (a .bytes .now)) (l .loop .i) (l .loop .inv .1) same)
+    let l = c .before .before .before in
+    (omega arith, rw (add-one, c .before .name-byte .ensures, l .loop .inv .1) refl)
 
-returns-2 : tie.Need-returns-2 Inv-loop μ-loop
-returns-2 c =
+returns : tie.Need-returns Inv-loop μ-loop
+returns c =
     let l = c .before in
     let a = l .before .before .args in
     let e : l .loop .i ≡ a .count = omega arith in
-    sym (rw e at (l .loop .inv .1)) ∙ same-from (a .names .now) (a .bytes .now) (a .place) (a .count)
+    rw e at (l .loop .inv .1) ∙ same-from (a .names .now) (a .bytes .now) (a .place) (a .count)
 
 pub same-at-spec : {M : Type 1} → statement M
 same-at-spec =
@@ -74,9 +63,8 @@ same-at-spec =
     loop-holds
     add-name-byte
     name-byte-requires
-    shared-slice-read-if1
-    returns
+    shared-slice-read-same
     add-i
     loop-less
     loop-again
-    returns-2)
+    returns)
