@@ -1,4 +1,4 @@
-// Words, numbers, steps and answers on standard output.
+// Words, numbers, steps and answers on standard output. What only prints answers nothing and has nothing to promise.
 use rules::Answer;
 use rules::Step;
 ghost use mathlib.Core.Path.{_≡_};
