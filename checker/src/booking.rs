@@ -255,7 +255,7 @@ impl Register {
     }
 
     /// The account that bring in debits: "the issuance account of its issuer link, else the inter-CSD
-    /// account of its default link to an external CSD", or 19.
+    /// account of its default link to an external CSD", by the participant's row there, or 19.
     fn source(&self, security: SecurityNumber, account: AccountNumber) -> Result<AccountNumber, Refusal> {
         let csd = self.account_csd(account);
         if self.is_issuer(security, csd) {
@@ -263,7 +263,7 @@ impl Register {
         }
         self.default_technical(security, csd)
             .filter(|&technical| self.is_external(technical))
-            .and_then(|technical| self.pair(csd, technical))
+            .and_then(|technical| self.pair(technical, account))
             .map(|pair| AccountNumber(pair.investor_account))
             .ok_or(Refusal::NoSource)
     }

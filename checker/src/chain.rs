@@ -77,7 +77,8 @@ impl Register {
         steps(Route { delivering: from_d.side.csds(), receiving: from_r.side.csds(), meeting })
     }
 
-    /// The step of each CSD of a route, or 18.
+    /// The step of each CSD of a route, or 18. Each side is climbed from its own account upwards: "a step looks up
+    /// the row of the account at its other side".
     fn steps(
         &self,
         security: SecurityNumber,
@@ -87,38 +88,38 @@ impl Register {
     ) -> Result<Steps, Refusal> {
         let mut list = [Step::default(); STEPS];
         let mut front = 0;
-        let mut debit = delivering.0;
+        let mut debit = delivering;
         for hop in route.delivering.windows(2) {
-            let pair = self.pair_or_refusal(hop[0], hop[1])?;
-            list[front] = Step { csd: hop[0].0, debit, credit: pair.investor_account };
+            let pair = self.pair_or_refusal(hop[1], debit)?;
+            list[front] = Step { csd: hop[0].0, debit: debit.0, credit: pair.investor_account };
             front += 1;
-            debit = pair.technical_account;
+            debit = AccountNumber(pair.technical_account);
         }
         let ends = if matches!(route.meeting, Meeting::Shared) { 1 } else { 2 };
         let length = front + route.receiving.len() - 1 + ends;
         let mut back = length;
-        let mut credit = receiving.0;
+        let mut credit = receiving;
         for hop in route.receiving.windows(2) {
-            let pair = self.pair_or_refusal(hop[0], hop[1])?;
+            let pair = self.pair_or_refusal(hop[1], credit)?;
             back -= 1;
-            list[back] = Step { csd: hop[0].0, debit: pair.investor_account, credit };
-            credit = pair.technical_account;
+            list[back] = Step { csd: hop[0].0, debit: pair.investor_account, credit: credit.0 };
+            credit = AccountNumber(pair.technical_account);
         }
         let (d, r) = (route.delivering[route.delivering.len() - 1], route.receiving[route.receiving.len() - 1]);
         let far = match route.meeting {
-            Meeting::Shared => (credit, debit),
+            Meeting::Shared => (credit.0, debit.0),
             Meeting::Issuers => (self.issuance(security, d).0, self.issuance(security, r).0),
             Meeting::Outside(x, y) => {
-                (self.pair_or_refusal(d, x)?.investor_account, self.pair_or_refusal(r, y)?.investor_account)
+                (self.pair_or_refusal(x, debit)?.investor_account, self.pair_or_refusal(y, credit)?.investor_account)
             }
         };
-        list[front] = Step { csd: d.0, debit, credit: far.0 };
-        list[back - 1] = Step { csd: r.0, debit: far.1, credit };
+        list[front] = Step { csd: d.0, debit: debit.0, credit: far.0 };
+        list[back - 1] = Step { csd: r.0, debit: far.1, credit: credit.0 };
         Ok(Steps { list, length })
     }
 
-    fn pair_or_refusal(&self, investor: CsdNumber, technical: CsdNumber) -> Result<&Pair, Refusal> {
-        self.pair(investor, technical).ok_or(Refusal::NoPair)
+    fn pair_or_refusal(&self, technical: CsdNumber, served: AccountNumber) -> Result<&Pair, Refusal> {
+        self.pair(technical, served).ok_or(Refusal::NoPair)
     }
 }
 

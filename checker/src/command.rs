@@ -42,12 +42,6 @@ impl<'a> Reader<'a> {
             0x01 => Command::EnterCsd(Csd { kind: self.byte()?, bic: self.bytes()? }),
             0x02 => Command::EnterSecurity(Security { isin: self.bytes()? }),
             0x03 => Command::EnterAccount(Account { csd: self.byte()?, kind: self.byte()? }),
-            0x04 => Command::EnterPair(Pair {
-                investor: self.byte()?,
-                technical: self.byte()?,
-                investor_account: self.account()?,
-                technical_account: self.account()?,
-            }),
             0x05 => Command::EnterLink(Link {
                 security: self.byte()?,
                 kind: self.byte()?,
@@ -64,6 +58,13 @@ impl<'a> Reader<'a> {
             0x0B => Command::Derive { delivering: self.half()?, receiving: self.half()? },
             0x0C => Command::SettleSided { first: self.sided_half()?, second: self.sided_half()? },
             0x0D => Command::DeriveSided { first: self.sided_half()?, second: self.sided_half()? },
+            0x0E => Command::EnterPair(Pair {
+                investor: self.byte()?,
+                technical: self.byte()?,
+                investor_account: self.account()?,
+                technical_account: self.account()?,
+                served: self.account()?,
+            }),
             _ => return Err(Refusal::UnknownCommand),
         })
     }
@@ -119,7 +120,6 @@ impl Command {
             Command::EnterCsd(_) => 0x01,
             Command::EnterSecurity(_) => 0x02,
             Command::EnterAccount(_) => 0x03,
-            Command::EnterPair(_) => 0x04,
             Command::EnterLink(_) => 0x05,
             Command::BringIn { .. } => 0x06,
             Command::TakeOut { .. } => 0x07,
@@ -129,12 +129,17 @@ impl Command {
             Command::Derive { .. } => 0x0B,
             Command::SettleSided { .. } => 0x0C,
             Command::DeriveSided { .. } => 0x0D,
+            Command::EnterPair(_) => 0x0E,
         }
     }
 
     /// Writes the command as a stream carries it.
     pub fn write(&self, out: &mut Vec<u8>) {
         out.push(self.code());
+        self.write_operands(out);
+    }
+
+    pub fn write_operands(&self, out: &mut Vec<u8>) {
         match *self {
             Command::EnterCsd(Csd { kind, bic }) => {
                 out.push(kind);
@@ -142,10 +147,11 @@ impl Command {
             }
             Command::EnterSecurity(Security { isin }) => out.extend(isin),
             Command::EnterAccount(Account { csd, kind }) => out.extend([csd, kind]),
-            Command::EnterPair(Pair { investor, technical, investor_account, technical_account }) => {
+            Command::EnterPair(Pair { investor, technical, investor_account, technical_account, served }) => {
                 out.extend([investor, technical]);
-                out.extend(investor_account.to_be_bytes());
-                out.extend(technical_account.to_be_bytes());
+                for account in [investor_account, technical_account, served] {
+                    out.extend(account.to_be_bytes());
+                }
             }
             Command::EnterLink(Link { security, kind, csd, technical, flag, account }) => {
                 out.extend([security, kind, csd, technical, flag]);

@@ -4,7 +4,7 @@
 pub const CSDS: usize = 32;
 pub const SECURITIES: usize = 16;
 pub const ACCOUNTS: usize = 256;
-pub const PAIRS: usize = 64;
+pub const PAIRS: usize = 512;
 pub const LINKS: usize = 128;
 
 /// Stands where a link names no technical issuer.
@@ -51,14 +51,15 @@ pub struct Account {
     pub kind: u8,
 }
 
-/// The accounts through which an investor CSD holds with a technical issuer: its mirror and the
-/// omnibus, or its inter-CSD account and none.
+/// The accounts through which an investor CSD holds with a technical issuer for one of its participant or
+/// omnibus accounts, the served one: its mirror and the omnibus, or its inter-CSD account and none.
 #[derive(Clone, Copy, PartialEq, Eq, Debug, Default)]
 pub struct Pair {
     pub investor: u8,
     pub technical: u8,
     pub investor_account: u16,
     pub technical_account: u16,
+    pub served: u16,
 }
 
 #[derive(Clone, Copy, PartialEq, Eq, Debug, Default)]

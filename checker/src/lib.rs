@@ -1,5 +1,5 @@
-//! Document 01, "Cross-CSD realignment and booking on T2S", with ask 1 of document 02, written from their
-//! text alone. It is the oracle of the proved library and its peer in speed, and shares no line with it.
+//! Document 01, "Cross-CSD realignment and booking on T2S", with asks 1 to 3 of document 02, written from
+//! their text alone. It is the oracle of the proved library and its peer in speed, and shares no line with it.
 //!
 //! The model: [`directory`] (the record), [`register`] (entries, soundness, look-ups), [`walk`],
 //! [`chain`], [`booking`], [`desk`] (single calls), [`command`], [`text`] and

@@ -8,11 +8,21 @@ use crate::command::{Command, Reader};
 use crate::directory::*;
 use crate::trial::implementation::{Answer, Call, Implementation, Program, Store};
 
-/// Bytes of a row of each table.
-const WIDTHS: [usize; 5] = [12, 12, 2, 6, 7];
+/// The command that enters a row of each table, and the bytes of a row.
+const ENTRIES: [u8; 5] = [0x01, 0x02, 0x03, 0x0E, 0x05];
+const WIDTHS: [usize; 5] = [12, 12, 2, 8, 7];
 const ROWS: [usize; 5] = [CSDS, SECURITIES, ACCOUNTS, PAIRS, LINKS];
 const STEP_WIDTH: usize = 5;
 pub const STEP_BYTES: usize = STEPS * STEP_WIDTH;
+/// Bytes of all rows.
+pub const ROW_BYTES: usize = {
+    let (mut bytes, mut table) = (0, 0);
+    while table < ROWS.len() {
+        bytes += ROWS[table] * WIDTHS[table];
+        table += 1;
+    }
+    bytes
+};
 /// Bytes that hold any transcript (crates/stream/src/lib.rt, ROOM).
 pub const ROOM: usize = 400_000;
 
@@ -283,11 +293,11 @@ impl Bytes {
         self.counts.extend([csds.count, securities.count, accounts.count, pairs.count, links.count]);
         self.rows.clear();
         let rows = &mut self.rows;
-        csds.rows.iter().for_each(|row| write_row(rows, Command::EnterCsd(*row)));
-        securities.rows.iter().for_each(|row| write_row(rows, Command::EnterSecurity(*row)));
-        accounts.rows.iter().for_each(|row| write_row(rows, Command::EnterAccount(*row)));
-        pairs.rows.iter().for_each(|row| write_row(rows, Command::EnterPair(*row)));
-        links.rows.iter().for_each(|row| write_row(rows, Command::EnterLink(*row)));
+        csds.rows.iter().for_each(|row| Command::EnterCsd(*row).write_operands(rows));
+        securities.rows.iter().for_each(|row| Command::EnterSecurity(*row).write_operands(rows));
+        accounts.rows.iter().for_each(|row| Command::EnterAccount(*row).write_operands(rows));
+        pairs.rows.iter().for_each(|row| Command::EnterPair(*row).write_operands(rows));
+        links.rows.iter().for_each(|row| Command::EnterLink(*row).write_operands(rows));
     }
 
     fn read(&self) -> Directory {
@@ -298,13 +308,13 @@ impl Bytes {
                 let (row, behind) = rest.split_at(width);
                 rest = behind;
                 let Directory { csds, securities, accounts, pairs, links } = &mut directory;
-                match read_row(table as u8 + 1, row) {
+                match read_row(ENTRIES[table], row) {
                     Command::EnterCsd(row) => csds.rows[number] = row,
                     Command::EnterSecurity(row) => securities.rows[number] = row,
                     Command::EnterAccount(row) => accounts.rows[number] = row,
                     Command::EnterPair(row) => pairs.rows[number] = row,
                     Command::EnterLink(row) => links.rows[number] = row,
-                    _ => unreachable!("codes 1 to 5 are entries"),
+                    _ => unreachable!("these are the entries"),
                 }
             }
         }
@@ -318,13 +328,6 @@ impl Bytes {
         directory.links.count = links;
         directory
     }
-}
-
-/// The operands of the command that enters the row.
-fn write_row(rows: &mut Vec<u8>, entry: Command) {
-    let start = rows.len();
-    entry.write(rows);
-    rows.remove(start);
 }
 
 fn read_row(code: u8, operands: &[u8]) -> Command {

@@ -7,6 +7,7 @@ use crate::numbers::{AccountNumber, CsdNumber, CsdSet, SecurityNumber};
 use crate::refusal::{require, Refusal};
 
 const NONE: u8 = 0xFF;
+const NO_ROW: u16 = 0xFFFF;
 
 /// The links of one security, by CSD.
 #[derive(Clone)]
@@ -21,8 +22,10 @@ struct SecurityLinks {
 pub struct Register {
     directory: Directory,
     external: CsdSet,
-    paired: [bool; ACCOUNTS],
-    pair_numbers: [[u8; CSDS]; CSDS],
+    /// By account, a pair row that has it as mirror, inter-CSD or omnibus account.
+    paired: [u16; ACCOUNTS],
+    /// By served account and technical issuer.
+    pair_numbers: [[u16; CSDS]; ACCOUNTS],
     links: [SecurityLinks; SECURITIES],
 }
 
@@ -37,8 +40,8 @@ impl Default for Register {
         Register {
             directory: Directory::default(),
             external: CsdSet::default(),
-            paired: [false; ACCOUNTS],
-            pair_numbers: [[NONE; CSDS]; CSDS],
+            paired: [NO_ROW; ACCOUNTS],
+            pair_numbers: [[NO_ROW; CSDS]; ACCOUNTS],
             links: std::array::from_fn(|_| no_links.clone()),
         }
     }
@@ -48,13 +51,13 @@ impl Default for Register {
 impl Register {
     /// The register of a record, or 4: "A directory is sound when counts are within limits and each row,
     /// tables taken in this order, would be accepted after the rows before it."
-    pub fn of(record: &Directory) -> Result<Register, Refusal> {
+    pub fn of(record: &Directory) -> Result<Box<Register>, Refusal> {
         Register::replay(record).map_err(|_| Refusal::NotSound)
     }
 
     /// The same, with the first flaw: the table of the row refused, and why (5 for the count).
-    pub fn replay(record: &Directory) -> Result<Register, (&'static str, Refusal)> {
-        let mut register = Register::default();
+    pub fn replay(record: &Directory) -> Result<Box<Register>, (&'static str, Refusal)> {
+        let mut register = Box::<Register>::default();
         each(&record.csds, |row| register.enter_csd(row)).map_err(|refusal| ("CSDs", refusal))?;
         each(&record.securities, |row| register.enter_security(row)).map_err(|refusal| ("securities", refusal))?;
         each(&record.accounts, |row| register.enter_account(row)).map_err(|refusal| ("accounts", refusal))?;
@@ -94,12 +97,19 @@ impl Register {
         self.external.contains(csd)
     }
 
-    /// The pair of an investor CSD and a technical issuer.
-    pub fn pair(&self, investor: CsdNumber, technical: CsdNumber) -> Option<&Pair> {
-        match self.pair_numbers[investor.index()][technical.index()] {
-            NONE => None,
-            number => Some(&self.directory.pairs.rows[usize::from(number)]),
-        }
+    /// The pair row of a served account at a technical issuer. The account's CSD is the investor.
+    pub fn pair(&self, technical: CsdNumber, served: AccountNumber) -> Option<&Pair> {
+        self.pair_row(self.pair_numbers[served.index()][technical.index()])
+    }
+
+    /// A pair row that has the account as mirror, inter-CSD or omnibus account. All that have it name the same
+    /// two CSDs and accounts.
+    fn pair_with(&self, account: AccountNumber) -> Option<&Pair> {
+        self.pair_row(self.paired[account.index()])
+    }
+
+    fn pair_row(&self, number: u16) -> Option<&Pair> {
+        self.directory.pairs.rows.get(usize::from(number))
     }
 
     pub fn is_issuer(&self, security: SecurityNumber, csd: CsdNumber) -> bool {
@@ -167,24 +177,41 @@ impl Register {
         let outside = self.is_external(technical);
         let near = self.account(pair.investor_account)?;
         let far = self.account_or_none(pair.technical_account, !outside)?;
+        let served = self.account(pair.served)?;
 
-        let is_paired = |account: AccountNumber| self.paired[account.index()];
-        let entered = self.pair(investor, technical).is_some() || is_paired(near) || far.is_some_and(is_paired);
-        require(!entered, Refusal::AlreadyEntered)?;
+        let same_triplet = self.pair(technical, served).is_some_and(|row| row.investor == pair.investor);
+        require(!same_triplet && self.may_share(&pair, near, far), Refusal::AlreadyEntered)?;
 
         let near_kind = if outside { INTER_CSD } else { MIRROR };
-        let fits = |account, csd, kind| self.account_csd(account) == csd && self.account_kind(account) == kind;
-        let accounts_fit =
-            fits(near, investor, near_kind) && (outside || far.is_some_and(|far| fits(far, technical, OMNIBUS)));
+        let fits = |account, csd, kinds: &[u8]| {
+            self.account_csd(account) == csd && kinds.contains(&self.account_kind(account))
+        };
+        let accounts_fit = fits(near, investor, &[near_kind])
+            && (outside || far.is_some_and(|far| fits(far, technical, &[OMNIBUS])))
+            && fits(served, investor, &[PARTICIPANT, OMNIBUS]);
         require(accounts_fit, Refusal::WrongAccount)?;
         require(investor != technical && !(outside && far.is_some()), Refusal::RuleBroken)?;
 
+        let number = self.directory.pairs.count as u16;
         for account in [Some(near), far].into_iter().flatten() {
-            self.paired[account.index()] = true;
+            self.paired[account.index()] = number;
         }
-        self.pair_numbers[investor.index()][technical.index()] = self.directory.pairs.count as u8;
+        self.pair_numbers[served.index()][technical.index()] = number;
         self.directory.pairs.push(pair);
         Ok(())
+    }
+
+    /// "Rows of the same two CSDs may share both accounts or neither, those with an external issuer the inter-CSD
+    /// account alone; other rows share none. A served account doesn't count as shared."
+    fn may_share(&self, pair: &Pair, near: AccountNumber, far: Option<AccountNumber>) -> bool {
+        let first_is_shared = |row: &Pair| {
+            [row.investor, row.technical] == [pair.investor, pair.technical]
+                && row.investor_account == pair.investor_account
+        };
+        let both_are_shared = |row: &Pair| first_is_shared(row) && row.technical_account == pair.technical_account;
+        let second_is_none = |row: &Pair| row.technical_account == NO_ACCOUNT;
+        self.pair_with(near).is_none_or(|row| both_are_shared(row) || first_is_shared(row) && second_is_none(row))
+            && far.and_then(|far| self.pair_with(far)).is_none_or(both_are_shared)
     }
 
     pub fn enter_link(&mut self, link: Link) -> Result<(), Refusal> {

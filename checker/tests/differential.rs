@@ -66,7 +66,7 @@ fn streams() {
 
 #[test]
 fn single_calls() {
-    let count = setting("CHECKER_STORES").unwrap_or(4_000);
+    let count = setting("CHECKER_STORES").unwrap_or(12_000);
     run("single_calls", &mut Model, differential::calls, count, Coverage::of_calls);
 }
 

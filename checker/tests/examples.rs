@@ -1,10 +1,11 @@
 //! Chains that the documents show, by name: all of "Chains by example" of document 01, the walks that it
-//! words, and the examples 122 to 126 and 130 of document 000 with their accounts.
+//! words, and the examples 24, 122 to 126 and 130 of document 000 with their accounts and triplets.
 //!
 //! Links are written as in document 01: "A>C>I" are default links from A to C and from C to I, "C~B" is an
-//! alternative; I and J are issuers, X and Y external. Every hop has its pair, every CSD in T2S a participant.
+//! alternative; I and J are issuers, X and Y external. Every CSD in T2S has a participant; it and every omnibus account
+//! that it reaches has a pair row for each hop, all of two CSDs over the same accounts.
 
-use std::collections::BTreeMap;
+use std::collections::{BTreeMap, BTreeSet};
 
 use checker::booking::{Cents, Halves, Units};
 use checker::chain::Step;
@@ -19,12 +20,27 @@ const SECURITY: u8 = 0;
 struct Example {
     scenario: Scenario,
     csds: BTreeMap<char, u8>,
+    hops: Vec<(u8, u8)>,
     accounts: BTreeMap<u16, String>,
 }
 
 impl Example {
     fn new(links: &str) -> Example {
-        let mut example = Example { scenario: Scenario::default(), csds: BTreeMap::new(), accounts: BTreeMap::new() };
+        let mut example = Example::without_rows(links);
+        let participants: Vec<u16> =
+            example.accounts.iter().filter(|(_, name)| name.starts_with("Part")).map(|(&number, _)| number).collect();
+        example.scenario.serve_along(&participants, &example.hops, |_| Some(0));
+        example.name_accounts();
+        example
+    }
+
+    fn without_rows(links: &str) -> Example {
+        let mut example = Example {
+            scenario: Scenario::default(),
+            csds: BTreeMap::new(),
+            hops: Vec::new(),
+            accounts: BTreeMap::new(),
+        };
         example.scenario.security();
         for name in ['A', 'B'].into_iter().chain(links.chars().filter(char::is_ascii_uppercase)) {
             example.enter_csd(name);
@@ -60,19 +76,61 @@ impl Example {
     fn enter_link(&mut self, investor: char, technical: char, flag: u8) {
         let (csd, issuer) = (self.csds[&investor], self.csds[&technical]);
         self.scenario.link(SECURITY, csd, issuer, flag);
-        self.scenario.pair(csd, issuer);
-        let pairs = self.scenario.directory().pairs.entered().unwrap();
-        if let Some(pair) = pairs.iter().find(|pair| pair.investor == csd && pair.technical == issuer) {
-            let kind = if pair.technical_account == NO_ACCOUNT { "Inter CSD" } else { "Mirror" };
-            self.accounts.insert(pair.investor_account, format!("{kind} {investor}-{technical}"));
-            self.accounts.insert(pair.technical_account, format!("Omnibus {investor}"));
+        self.hops.push((csd, issuer));
+    }
+
+    /// Names the accounts of pair rows, with numbers where two CSDs have several of them.
+    fn name_accounts(&mut self) {
+        let rows = self.rows();
+        for row in &rows {
+            let (investor, technical) = (self.name(row.investor), self.name(row.technical));
+            let same = rows.iter().filter(|other| other.investor == row.investor && other.technical == row.technical);
+            let firsts: BTreeSet<u16> = same.map(|other| other.investor_account).collect();
+            let place = firsts.iter().position(|&first| first == row.investor_account).unwrap();
+            let number = if firsts.len() > 1 { format!(" {}", place + 1) } else { String::new() };
+            let kind = if row.technical_account == NO_ACCOUNT { "Inter CSD" } else { "Mirror" };
+            self.accounts.insert(row.investor_account, format!("{kind}{number} {investor}-{technical}"));
+            self.accounts.insert(row.technical_account, format!("Omnibus{number} {investor}"));
         }
+    }
+
+    fn rows(&self) -> Vec<Pair> {
+        self.scenario.directory().pairs.entered().unwrap().to_vec()
+    }
+
+    /// Another participant of a CSD, under a name of its own.
+    fn participant(&mut self, csd: char, name: char) {
+        let account = self.scenario.account(self.csds[&csd], PARTICIPANT);
+        self.accounts.insert(account, format!("Part {name}"));
+    }
+
+    fn account(&self, name: &str) -> u16 {
+        self.accounts.iter().find(|(_, text)| *text == name).map(|(&number, _)| number).unwrap()
+    }
+
+    /// Enters rows for a participant along a path, over the accounts of this place of each two CSDs.
+    fn climb(&mut self, participant: char, path: &str, duos: &[usize]) {
+        let mut served = self.account(&format!("Part {participant}"));
+        for (technical, &duo) in path.chars().zip(duos) {
+            served = self.scenario.serve(served, self.csds[&technical], duo).unwrap_or(NO_ACCOUNT);
+        }
+        self.name_accounts();
+    }
+
+    /// The rows as document 000 lists them: the triplet, then the accounts.
+    fn triplets(&self) -> Vec<String> {
+        let line = |row: &Pair| {
+            let account = |number| &self.accounts[&number];
+            let (investor, technical) = (self.name(row.investor), self.name(row.technical));
+            let [served, one, other] = [row.served, row.investor_account, row.technical_account].map(account);
+            format!("{investor} {technical} {served}: {one}, {other}")
+        };
+        self.rows().iter().map(line).collect()
     }
 
     /// The steps from A to B, derived as a single call, or the refusal.
     fn steps(&self, from: char, to: char) -> Result<Vec<Step>, u8> {
-        let account = |name| self.accounts.iter().find(|(_, text)| **text == format!("Part {name}")).map(|(&n, _)| n);
-        let (from, to) = (account(from).unwrap(), account(to).unwrap());
+        let [from, to] = [from, to].map(|name| self.account(&format!("Part {name}")));
         let (delivering, receiving) = halves(self.scenario.directory(), from, to, SECURITY, 100, 0);
         let mut steps = [Step::default(); 16];
         let halves = Halves::by_place(&delivering, &receiving);
@@ -167,9 +225,7 @@ mod chains_by_example {
     #[test]
     fn one_csd_is_one_step() {
         let mut example = Example::new("A>I");
-        let csd = example.csds[&'A'];
-        let second = example.scenario.account(csd, PARTICIPANT);
-        example.accounts.insert(second, "Part Z".into());
+        example.participant('A', 'Z');
         assert_eq!(example.accounts('A', 'Z'), ["A: Part A > Part Z"]);
     }
 
@@ -259,11 +315,10 @@ mod mistakes_to_expect {
     fn provision_is_tested_on_the_omnibus_too() {
         let example = Example::new("A>C>I, B>D>I");
         let directory = example.scenario.directory();
-        let account =
-            |name: &str| example.accounts.iter().find(|(_, text)| *text == name).map(|(&number, _)| number).unwrap();
-        let (delivering, receiving) = halves(directory, account("Part A"), account("Part B"), SECURITY, 100, 0);
+        let [a, b] = ["Part A", "Part B"].map(|name| example.account(name));
+        let (delivering, receiving) = halves(directory, a, b, SECURITY, 100, 0);
         let mut positions = vec![Units(100); 4096];
-        positions[usize::from(account("Omnibus C")) * 16].0 = 99;
+        positions[usize::from(example.account("Omnibus C")) * 16].0 = 99;
         let (before, mut steps) = (positions.clone(), [Step::default(); 16]);
         let halves = Halves::by_place(&delivering, &receiving);
         let answer = desk::settle(directory, &mut positions, &mut [Cents(0); 256], &mut steps, halves);
@@ -402,11 +457,75 @@ mod document_000 {
         assert_eq!(accounts("A>I, B>J, A~B", 2), ["A: Part A > Mirror A-B", "B: Omnibus A > Part B"]);
     }
 
-    /// With a single omnibus account of C; several are not in document 01.
     #[test]
     fn example_126_common_technical_issuer() {
         let expected = ["A: Part A > Mirror A-C", "C: Omnibus A > Omnibus B", "B: Mirror B-C > Part B"];
         assert_eq!(accounts("A>C, B>C, C>I", 4), expected);
+    }
+
+    /// Where C uses two omnibus accounts with I, document 000 goes on to I; document 01 turns at the shared CSD.
+    #[test]
+    fn example_126_two_omnibus_accounts() {
+        let mut example = Example::without_rows("A>C, B>C, C>I");
+        example.climb('A', "CI", &[0, 0]);
+        example.climb('B', "CI", &[0, 1]);
+        let triplets = [
+            "A C Part A: Mirror A-C, Omnibus A",
+            "C I Omnibus A: Mirror 1 C-I, Omnibus 1 C",
+            "B C Part B: Mirror B-C, Omnibus B",
+            "C I Omnibus B: Mirror 2 C-I, Omnibus 2 C",
+        ];
+        assert_eq!(example.triplets(), triplets);
+        let expected = ["A: Part A > Mirror A-C", "C: Omnibus A > Omnibus B", "B: Mirror B-C > Part B"];
+        assert_eq!(example.accounts('A', 'B'), expected);
+    }
+
+    /// Where document 000 has a default omnibus account for all others, each account has its row.
+    #[test]
+    fn example_24_several_omnibus_accounts() {
+        let mut example = Example::without_rows("E>I");
+        for (name, duo) in [('F', 1), ('G', 1)] {
+            example.participant('E', name);
+            example.climb('E', "I", &[0]);
+            example.climb(name, "I", &[duo]);
+        }
+        let triplets = [
+            "E I Part E: Mirror 1 E-I, Omnibus 1 E",
+            "E I Part F: Mirror 2 E-I, Omnibus 2 E",
+            "E I Part G: Mirror 2 E-I, Omnibus 2 E",
+        ];
+        assert_eq!(example.triplets(), triplets);
+        assert_eq!(example.accounts('E', 'I'), ["E: Part E > Mirror 1 E-I", "I: Omnibus 1 E > Part I"]);
+        assert_eq!(example.accounts('I', 'F'), ["I: Part I > Omnibus 2 E", "E: Mirror 2 E-I > Part F"]);
+        assert_eq!(example.accounts('G', 'I'), ["E: Part G > Mirror 2 E-I", "I: Omnibus 2 E > Part I"]);
+        assert_eq!(example.accounts('E', 'F'), ["E: Part E > Part F"]);
+    }
+
+    /// The triplets that "accounts identification" looks up for example 122, recursively from each participant.
+    #[test]
+    fn accounts_identification() {
+        let mut example = Example::without_rows("A>C>I, B>D>I");
+        example.climb('A', "CI", &[0, 0]);
+        example.climb('B', "DI", &[0, 0]);
+        let triplets = [
+            "A C Part A: Mirror A-C, Omnibus A",
+            "C I Omnibus A: Mirror C-I, Omnibus C",
+            "B D Part B: Mirror B-D, Omnibus B",
+            "D I Omnibus B: Mirror D-I, Omnibus D",
+        ];
+        assert_eq!(example.triplets(), triplets);
+        let expected = [
+            "A: Part A > Mirror A-C",
+            "C: Omnibus A > Mirror C-I",
+            "I: Omnibus C > Omnibus D",
+            "D: Mirror D-I > Omnibus B",
+            "B: Mirror B-D > Part B",
+        ];
+        assert_eq!(example.accounts('A', 'B'), expected);
+        // Neither C nor D has a row for a participant of its own.
+        for (from, to) in [('C', 'B'), ('A', 'D'), ('C', 'I')] {
+            assert_eq!(example.chain(from, to), Err(18));
+        }
     }
 
     #[test]

@@ -43,9 +43,14 @@ fn number(result: Result<checker::transcript::Done, checker::refusal::Refusal>) 
 }
 
 /// The refusal of a pair row, 0 for none.
-fn pair(scenario: &mut Scenario, investor: u8, technical: u8, one: u16, other: u16) -> u8 {
-    let row = Pair { investor, technical, investor_account: one, technical_account: other };
+fn row(scenario: &mut Scenario, investor: u8, technical: u8, one: u16, other: u16, served: u16) -> u8 {
+    let row = Pair { investor, technical, investor_account: one, technical_account: other, served };
     number(scenario.send(Command::EnterPair(row)))
+}
+
+/// The same with the investor's participant served.
+fn pair(scenario: &mut Scenario, investor: u8, technical: u8, one: u16, other: u16) -> u8 {
+    row(scenario, investor, technical, one, other, account(investor.min(C), PARTICIPANT))
 }
 
 /// The refusal of a link row in security 0, 0 for none.
@@ -173,7 +178,7 @@ fn trade() -> (Scenario, Half, Half) {
     let mut s = fixture();
     s.issuer(0, B);
     s.link(0, A, B, DEFAULT);
-    s.pair(A, B);
+    s.serve(account(A, PARTICIPANT), B, 0);
     let (delivering, receiving) = halves(s.directory(), account(B, PARTICIPANT), account(A, PARTICIPANT), 0, 5, 0);
     (s, delivering, receiving)
 }
@@ -416,5 +421,384 @@ mod sides {
             let text = String::from_utf8(checker::transcript(&bytes)).unwrap();
             assert!(text.contains(" no 2\ntotal"), "{text}");
         }
+    }
+}
+
+/// Document 02, ask 3: "Segregated holdings".
+mod segregated {
+    use super::*;
+    use checker::trial::literal::Rows;
+
+    /// The numbers of accounts that the fixture has once, by CSD.
+    fn participant(csd: u8) -> u16 {
+        account(csd, PARTICIPANT)
+    }
+
+    fn mirror(csd: u8) -> u16 {
+        account(csd, MIRROR)
+    }
+
+    fn omnibus(csd: u8) -> u16 {
+        account(csd, OMNIBUS)
+    }
+
+    fn inter_csd(csd: u8) -> u16 {
+        account(csd, INTER_CSD)
+    }
+
+    /// The steps of a chain in security 0 as CSD, debited, credited, or the refusal; by derivation in every form.
+    fn chain(s: &Scenario, from: u16, to: u16) -> Result<Vec<[u16; 3]>, u8> {
+        let (delivering, receiving) = halves(s.directory(), from, to, 0, 5, 0);
+        let derived = FORMS.map(|form| {
+            let mut store = Store { directory: s.directory().clone(), ..Store::empty() };
+            store.steps = vec![Step::default(); 16];
+            match Model.call(&mut store, &Call::Command(form.derive(delivering, receiving))) {
+                Answer::Chain(length) => Ok(store.steps[..length].to_vec()),
+                Answer::Refused(number) => Err(number),
+                answer => panic!("{answer:?} to a derivation"),
+            }
+        });
+        assert!(derived[1..].iter().all(|other| *other == derived[0]));
+        let line = |step: &Step| [step.csd.into(), step.debit, step.credit];
+        derived[0].clone().map(|steps| steps.iter().map(line).collect())
+    }
+
+    /// C holds with A and A with the issuer B. C's participant reaches A's omnibus account.
+    fn two_climbs() -> Scenario {
+        let mut s = fixture();
+        s.issuer(0, B);
+        s.link(0, A, B, DEFAULT);
+        s.link(0, C, A, DEFAULT);
+        assert_eq!(row(&mut s, C, A, mirror(C), omnibus(A), participant(C)), 0);
+        s
+    }
+
+    #[test]
+    fn there_is_no_default_row() {
+        let mut s = two_climbs();
+        assert_eq!(row(&mut s, A, B, mirror(A), omnibus(B), participant(A)), 0);
+        let second = s.account(A, PARTICIPANT);
+        assert_eq!(chain(&s, participant(A), participant(B)).map(|steps| steps.len()), Ok(2));
+        assert_eq!(chain(&s, second, participant(B)), Err(18));
+        assert_eq!(chain(&s, participant(B), second), Err(18));
+        assert_eq!(chain(&s, participant(C), participant(B)), Err(18));
+        assert_eq!(row(&mut s, A, B, mirror(A), omnibus(B), second), 0);
+        assert_eq!(row(&mut s, A, B, mirror(A), omnibus(B), omnibus(A)), 0);
+        assert_eq!(chain(&s, second, participant(B)).map(|steps| steps.len()), Ok(2));
+        assert_eq!(chain(&s, participant(C), participant(B)).map(|steps| steps.len()), Ok(3));
+    }
+
+    #[test]
+    fn no_served_account_is_6() {
+        let mut s = fixture();
+        assert_eq!(row(&mut s, A, B, mirror(A), omnibus(B), FFFF), 6);
+        assert_eq!(row(&mut s, A, X, inter_csd(A), FFFF, FFFF), 6);
+        assert_eq!(row(&mut s, A, B, mirror(A), omnibus(B), 99), 6);
+        // 6 comes before the same triplet and before wrong accounts.
+        assert_eq!(row(&mut s, A, B, mirror(A), omnibus(B), participant(A)), 0);
+        assert_eq!(row(&mut s, A, B, mirror(A), omnibus(B), FFFF), 6);
+        assert_eq!(row(&mut s, A, B, mirror(C), omnibus(C), 99), 6);
+    }
+
+    #[test]
+    fn a_served_account_of_another_csd_or_kind_is_10() {
+        let mut s = fixture();
+        for served in [participant(B), omnibus(C), mirror(A), inter_csd(A), account(A, ISSUANCE)] {
+            assert_eq!(row(&mut s, A, B, mirror(A), omnibus(B), served), 10, "{served}");
+            assert_eq!(row(&mut s, A, X, inter_csd(A), FFFF, served), 10, "{served}");
+        }
+        // 10 comes before 11.
+        assert_eq!(row(&mut s, A, A, mirror(A), omnibus(A), mirror(A)), 10);
+        assert_eq!(row(&mut s, A, X, inter_csd(A), omnibus(B), participant(B)), 10);
+        assert_eq!(row(&mut s, A, X, inter_csd(A), omnibus(B), participant(A)), 11);
+    }
+
+    #[test]
+    fn any_participant_or_omnibus_account_of_the_investor_is_served() {
+        let mut s = fixture();
+        assert_eq!(row(&mut s, C, A, mirror(C), omnibus(A), participant(C)), 0);
+        let unpaired = s.account(A, OMNIBUS);
+        for served in [participant(A), omnibus(A), unpaired] {
+            assert_eq!(row(&mut s, A, B, mirror(A), omnibus(B), served), 0);
+            assert_eq!(row(&mut s, A, X, inter_csd(A), FFFF, served), 0);
+        }
+    }
+
+    #[test]
+    fn served_accounts_are_not_shared() {
+        let mut s = fixture();
+        // Served in many rows.
+        assert_eq!(row(&mut s, A, B, mirror(A), omnibus(B), omnibus(A)), 0);
+        let other_mirror = s.account(A, MIRROR);
+        assert_eq!(row(&mut s, A, C, other_mirror, omnibus(C), omnibus(A)), 0);
+        assert_eq!(row(&mut s, A, X, inter_csd(A), FFFF, omnibus(A)), 0);
+        // Then another row's omnibus account, and that of a row before.
+        assert_eq!(row(&mut s, C, A, mirror(C), omnibus(A), participant(C)), 0);
+        assert_eq!(row(&mut s, B, A, mirror(B), omnibus(A), participant(B)), 9);
+        assert_eq!(row(&mut s, B, X, inter_csd(B), FFFF, omnibus(B)), 0);
+        // A served participant is a wrong first account, and not a shared one.
+        assert_eq!(row(&mut s, A, Y, participant(A), FFFF, participant(A)), 10);
+        assert_eq!(row(&mut s, A, B, mirror(A), omnibus(B), participant(A)), 0);
+        assert_eq!(row(&mut s, A, Y, participant(A), FFFF, participant(A)), 10);
+    }
+
+    #[test]
+    fn the_same_two_csds_are_so_in_their_roles() {
+        let mut s = fixture();
+        assert_eq!(row(&mut s, A, B, mirror(A), omnibus(B), participant(A)), 0);
+        assert_eq!(row(&mut s, B, A, mirror(A), omnibus(B), participant(B)), 9);
+        assert_eq!(row(&mut s, B, A, omnibus(B), mirror(A), participant(B)), 9);
+        assert_eq!(row(&mut s, B, A, mirror(B), omnibus(A), participant(B)), 0);
+    }
+
+    #[test]
+    fn rows_of_other_csds_share_none() {
+        let mut s = fixture();
+        assert_eq!(row(&mut s, A, B, mirror(A), omnibus(B), participant(A)), 0);
+        assert_eq!(row(&mut s, A, X, inter_csd(A), FFFF, participant(A)), 0);
+        assert_eq!(row(&mut s, A, C, mirror(A), omnibus(C), participant(A)), 9);
+        assert_eq!(row(&mut s, C, B, mirror(C), omnibus(B), participant(C)), 9);
+        assert_eq!(row(&mut s, A, Y, inter_csd(A), FFFF, participant(A)), 9);
+    }
+
+    #[test]
+    fn an_account_in_the_other_column_is_9() {
+        let mut s = fixture();
+        let (one, other) = (s.account(A, MIRROR), s.account(B, OMNIBUS));
+        assert_eq!(row(&mut s, A, B, mirror(A), omnibus(B), participant(A)), 0);
+        assert_eq!(row(&mut s, A, X, inter_csd(A), FFFF, participant(A)), 0);
+        let served = s.account(A, PARTICIPANT);
+        assert_eq!(row(&mut s, A, B, omnibus(B), other, served), 9);
+        assert_eq!(row(&mut s, A, B, one, mirror(A), served), 9);
+        assert_eq!(row(&mut s, A, B, one, inter_csd(A), served), 9);
+        assert_eq!(row(&mut s, A, B, one, mirror(C), served), 10);
+    }
+
+    #[test]
+    fn two_csds_share_both_accounts_or_neither() {
+        let mut s = fixture();
+        let (one, other) = (s.account(A, MIRROR), s.account(B, OMNIBUS));
+        let served: Vec<u16> = (0..3).map(|_| s.account(A, PARTICIPANT)).collect();
+        assert_eq!(row(&mut s, A, B, mirror(A), omnibus(B), participant(A)), 0);
+        assert_eq!(row(&mut s, A, B, mirror(A), other, served[0]), 9);
+        assert_eq!(row(&mut s, A, B, one, omnibus(B), served[0]), 9);
+        assert_eq!(row(&mut s, A, B, mirror(A), omnibus(B), served[0]), 0);
+        assert_eq!(row(&mut s, A, B, one, other, served[1]), 0);
+        assert_eq!(row(&mut s, A, B, mirror(A), other, served[2]), 9);
+        assert_eq!(row(&mut s, A, B, one, omnibus(B), served[2]), 9);
+        assert_eq!(row(&mut s, A, B, one, other, served[2]), 0);
+    }
+
+    #[test]
+    fn an_external_issuer_shares_the_inter_csd_account_alone() {
+        let mut s = fixture();
+        let second = s.account(A, PARTICIPANT);
+        assert_eq!(row(&mut s, A, X, inter_csd(A), FFFF, participant(A)), 0);
+        assert_eq!(row(&mut s, B, A, mirror(B), omnibus(A), participant(B)), 0);
+        for paired in [inter_csd(A), mirror(B), omnibus(A)] {
+            assert_eq!(row(&mut s, A, X, inter_csd(A), paired, second), 9, "{paired}");
+        }
+        for free in [omnibus(B), mirror(A), inter_csd(B), participant(A), second] {
+            assert_eq!(row(&mut s, A, X, inter_csd(A), free, second), 11, "{free}");
+        }
+        assert_eq!(row(&mut s, A, X, inter_csd(A), FFFF, second), 0);
+        let (third, other) = (s.account(A, PARTICIPANT), s.account(A, INTER_CSD));
+        assert_eq!(row(&mut s, A, X, other, FFFF, third), 0);
+    }
+
+    #[test]
+    fn the_same_triplet_is_9_whatever_the_accounts() {
+        let mut s = fixture();
+        let (one, other) = (s.account(A, MIRROR), s.account(B, OMNIBUS));
+        assert_eq!(row(&mut s, A, B, mirror(A), omnibus(B), participant(A)), 0);
+        assert_eq!(row(&mut s, A, X, inter_csd(A), FFFF, participant(A)), 0);
+        for (first, second) in [(mirror(A), omnibus(B)), (one, other), (mirror(C), participant(C))] {
+            assert_eq!(row(&mut s, A, B, first, second, participant(A)), 9);
+        }
+        for (first, second) in [(inter_csd(A), FFFF), (mirror(C), FFFF), (inter_csd(A), omnibus(C))] {
+            assert_eq!(row(&mut s, A, X, first, second, participant(A)), 9);
+        }
+        assert_eq!(row(&mut s, A, B, one, 99, participant(A)), 6);
+    }
+
+    #[test]
+    fn a_triplet_is_another_with_another_investor() {
+        let mut s = fixture();
+        assert_eq!(row(&mut s, A, B, mirror(A), omnibus(B), participant(A)), 0);
+        let other = s.account(B, OMNIBUS);
+        assert_eq!(row(&mut s, C, B, mirror(C), other, participant(A)), 10);
+        assert_eq!(row(&mut s, B, B, mirror(B), other, participant(A)), 10);
+        assert_eq!(row(&mut s, C, B, mirror(C), other, participant(C)), 0);
+    }
+
+    #[test]
+    fn five_at_512_rows_whatever_the_operands() {
+        let mut s = fixture();
+        let participants: Vec<u16> = (0..128).map(|_| s.account(A, PARTICIPANT)).collect();
+        for technical in [B, C, X, Y] {
+            for &served in &participants {
+                s.serve(served, technical, 0);
+            }
+        }
+        assert_eq!(s.directory().pairs.count, 512);
+        let last = participants[127];
+        assert_eq!(row(&mut s, A, B, mirror(A), omnibus(B), participant(A)), 5);
+        assert_eq!(row(&mut s, A, Y, inter_csd(A), FFFF, last), 5);
+        assert_eq!(row(&mut s, FF, FF, FFFF, FFFF, FFFF), 5);
+        s.link(0, A, Y, DEFAULT);
+        assert_eq!(number(s.bring_in(last, 0, 7)), 0);
+    }
+
+    #[test]
+    fn each_side_is_climbed_from_its_own_account() {
+        let mut s = two_climbs();
+        let second = s.account(C, PARTICIPANT);
+        s.serve(second, A, 1);
+        s.serve(participant(A), B, 1);
+        let omnibus_in_a =
+            |served| Rows::from(s.directory()).pairs.iter().find(|row| row.served == served).unwrap().technical_account;
+        let [first_omnibus, second_omnibus] = [participant(C), second].map(omnibus_in_a);
+        // The accounts at B are crossed: A's second ones for the first omnibus of C.
+        s.serve(second_omnibus, B, 0);
+        s.serve(first_omnibus, B, 1);
+        let rows = Rows::from(s.directory()).pairs;
+        let at = |served: u16, technical: u8| {
+            *rows.iter().find(|row| row.served == served && row.technical == technical).unwrap()
+        };
+        for (served, reached) in [(participant(C), first_omnibus), (second, second_omnibus)] {
+            let (low, high) = (at(served, A), at(reached, B));
+            let there = [
+                [C.into(), served, low.investor_account],
+                [A.into(), reached, high.investor_account],
+                [B.into(), high.technical_account, participant(B)],
+            ];
+            assert_eq!(chain(&s, served, participant(B)), Ok(there.to_vec()));
+            let back = there.map(|[csd, debit, credit]| [csd, credit, debit]);
+            assert_eq!(chain(&s, participant(B), served), Ok(back.into_iter().rev().collect()));
+        }
+        assert_ne!(at(first_omnibus, B).investor_account, at(second_omnibus, B).investor_account);
+    }
+
+    #[test]
+    fn a_reversed_chain_is_climbed_from_the_receiving_account() {
+        let mut s = fixture();
+        // B issues, A holds outside and, by alternatives over C, with B; C's default link leads outside too.
+        s.issuer(0, B);
+        s.link(0, A, C, DEFAULT);
+        s.link(0, C, X, DEFAULT);
+        s.link(0, C, B, ALTERNATIVE);
+        let second = s.account(A, PARTICIPANT);
+        for (duo, served) in [participant(A), second].into_iter().enumerate() {
+            s.climb(served, &[A, C, B], duo);
+        }
+        let rows = Rows::from(s.directory()).pairs;
+        for (low, high) in [(rows[0], rows[1]), (rows[2], rows[3])] {
+            let due = [
+                [B.into(), participant(B), high.technical_account],
+                [C.into(), high.investor_account, low.technical_account],
+                [A.into(), low.investor_account, low.served],
+            ];
+            assert_eq!(chain(&s, participant(B), low.served), Ok(due.to_vec()));
+        }
+        let third = s.account(A, PARTICIPANT);
+        assert_eq!(chain(&s, participant(B), third), Err(18));
+    }
+
+    #[test]
+    fn issuance_accounts_need_no_row() {
+        let mut s = fixture();
+        s.issuer(0, A);
+        s.issuer(0, B);
+        let due = [[A.into(), participant(A), account(A, ISSUANCE)], [B.into(), account(B, ISSUANCE), participant(B)]];
+        assert_eq!(chain(&s, participant(A), participant(B)), Ok(due.to_vec()));
+    }
+
+    #[test]
+    fn a_chain_turns_where_the_sides_meet_whatever_omnibus_accounts_serve_them_beyond() {
+        let mut s = fixture();
+        let issuer = s.csd(IN_T2S);
+        s.issuer(0, issuer);
+        for (csd, technical) in [(A, C), (B, C), (C, issuer)] {
+            s.link(0, csd, technical, DEFAULT);
+        }
+        for (csd, duo) in [(A, 0), (B, 1)] {
+            let reached = s.serve(participant(csd), C, 0).unwrap();
+            s.serve(reached, issuer, duo);
+        }
+        let rows = Rows::from(s.directory()).pairs;
+        assert_ne!(rows[1].technical_account, rows[3].technical_account);
+        let due = [
+            [A.into(), participant(A), rows[0].investor_account],
+            [C.into(), rows[0].technical_account, rows[2].technical_account],
+            [B.into(), rows[2].investor_account, participant(B)],
+        ];
+        assert_eq!(chain(&s, participant(A), participant(B)), Ok(due.to_vec()));
+        let second = s.account(A, PARTICIPANT);
+        assert_eq!(chain(&s, participant(A), second), Ok(vec![[A.into(), participant(A), second]]));
+    }
+
+    #[test]
+    fn bring_in_and_take_out_without_the_participants_row_are_19() {
+        let mut s = fixture();
+        s.link(0, A, X, DEFAULT);
+        let second = s.account(A, PARTICIPANT);
+        assert_eq!(row(&mut s, A, X, inter_csd(A), FFFF, participant(A)), 0);
+        assert_eq!(number(s.bring_in(second, 0, 5)), 19);
+        assert_eq!(number(s.take_out(second, 0, 5)), 19);
+        let own = s.account(A, INTER_CSD);
+        assert_eq!(row(&mut s, A, X, own, FFFF, second), 0);
+        assert_eq!(number(s.bring_in(participant(A), 0, 7)), 0);
+        assert_eq!(number(s.bring_in(second, 0, 5)), 0);
+        assert_eq!(number(s.take_out(second, 0, 2)), 0);
+        let held = |account: u16| s.session.positions()[usize::from(account) * SECURITIES].0;
+        assert_eq!([participant(A), inter_csd(A), second, own].map(held), [7, -7, 3, -3]);
+    }
+
+    #[test]
+    fn mirror_plus_omnibus_is_zero_for_each_duo() {
+        let mut s = fixture();
+        s.issuer(0, B);
+        s.link(0, A, B, DEFAULT);
+        let others: Vec<u16> = (0..2).map(|_| s.account(A, PARTICIPANT)).collect();
+        for (served, duo) in [(participant(A), 0), (others[0], 0), (others[1], 1)] {
+            s.serve(served, B, duo);
+        }
+        s.bring_in(participant(B), 0, 100).ok();
+        for (to, quantity) in [(participant(A), 10), (others[0], 20), (others[1], 40)] {
+            assert_eq!(number(s.settle(participant(B), to, 0, quantity, 0)), 0);
+        }
+        let rows = Rows::from(s.directory()).pairs;
+        let held = |account: u16| s.session.positions()[usize::from(account) * SECURITIES].0;
+        let duos = [rows[0], rows[2]].map(|row| [row.investor_account, row.technical_account].map(held));
+        assert_eq!(duos, [[-30, 30], [-40, 40]]);
+        // What one omnibus account lacks the other does not make good.
+        assert_eq!(number(s.settle(others[1], participant(B), 0, 41, 0)), 20);
+    }
+
+    #[test]
+    fn byte_04_is_unknown_and_0e_has_eight_operand_bytes() {
+        let text = |bytes: &[u8]| String::from_utf8(checker::transcript(bytes)).unwrap();
+        assert_eq!(text(&[0x04, 0, 1, 0, 1, 0, 2, 0x0E]), "1 no 1\ncash 0\n");
+        assert_eq!(text(&[0x0E, 0, 1, 0, 1, 0, 2, 0]), "1 no 2\ncash 0\n");
+        assert_eq!(text(&[0x0E, 0, 1, 0, 1, 0, 2, 0, 0]), "1 no 6\ncash 0\n");
+    }
+
+    #[test]
+    fn a_record_with_a_row_that_would_be_refused_is_not_sound() {
+        let mut s = fixture();
+        let second = s.account(A, PARTICIPANT);
+        assert_eq!(row(&mut s, A, B, mirror(A), omnibus(B), participant(A)), 0);
+        assert_eq!(row(&mut s, A, B, mirror(A), omnibus(B), second), 0);
+        let answer = |change: fn(&mut Directory)| {
+            let mut store = Store { directory: s.directory().clone(), ..Store::empty() };
+            change(&mut store.directory);
+            Model.call(&mut store, &Call::Command(Command::PayIn { account: 0, amount: Cents(1) }))
+        };
+        assert_eq!(answer(|_| {}), Answer::Accepted);
+        assert_eq!(answer(|directory| directory.pairs.rows[1].served = 0), Answer::Refused(4));
+        assert_eq!(answer(|directory| directory.pairs.rows[1].served = FFFF), Answer::Refused(4));
+        assert_eq!(answer(|directory| directory.pairs.rows[1].technical_account = 11), Answer::Refused(4));
+        assert_eq!(answer(|directory| directory.pairs.rows[2].served = FFFF), Answer::Accepted);
+        assert_eq!(answer(|directory| directory.pairs.count = 513), Answer::Refused(4));
     }
 }

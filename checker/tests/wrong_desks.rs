@@ -2,25 +2,29 @@
 //! catch every one.
 
 use checker::booking::SidedHalf;
-use checker::command::Command;
-use checker::directory::{Bic, Csd};
+use checker::chain::Step;
+use checker::command::{Command, Reader};
+use checker::directory::{Bic, Csd, Pair};
+use checker::trial::climbs::{Found, Source, Turn};
 use checker::trial::coverage::Coverage;
-use checker::trial::differential;
 use checker::trial::implementation::{Answer, Call, Implementation, Model, Program, Store};
-use checker::trial::literal::in_order;
+use checker::trial::literal::{in_order, Asked, LookUp, Rows};
+use checker::trial::{differential, pairing, streams};
 
 /// A change of the model's answer and of the store that it left, given the store before.
-type Mistake = fn(&Call, &Store, &mut Store, Answer) -> Answer;
+trait Mistake: Fn(&Call, &Store, &mut Store, Answer) -> Answer + Copy {}
 
-struct WrongDesk(Mistake);
+impl<M: Fn(&Call, &Store, &mut Store, Answer) -> Answer + Copy> Mistake for M {}
 
-impl Program for WrongDesk {
+struct WrongDesk<M>(M);
+
+impl<M> Program for WrongDesk<M> {
     fn transcript(&mut self, input: &[u8]) -> Vec<u8> {
         Model.transcript(input)
     }
 }
 
-impl Implementation for WrongDesk {
+impl<M: Mistake> Implementation for WrongDesk<M> {
     fn call(&mut self, store: &mut Store, call: &Call) -> Answer {
         let before = store.clone();
         let answer = Model.call(store, call);
@@ -29,7 +33,7 @@ impl Implementation for WrongDesk {
 }
 
 /// Both kinds of trial notice the mistake.
-fn is_caught(mistake: Mistake) {
+fn is_caught(mistake: impl Fn(&Call, &Store, &mut Store, Answer) -> Answer + Copy) {
     let mut coverage = Coverage::default();
     let by_streams =
         (1..1000).find_map(|seed| differential::stream(seed, &mut WrongDesk(mistake), &mut coverage).err());
@@ -329,16 +333,331 @@ mod branches {
     }
 }
 
+/// Document 02, ask 3: "Segregated holdings".
+mod segregated {
+    use super::*;
+
+    /// Pair rows are looked up in another way. A settlement that the model refuses stays refused.
+    fn looking_up(row: LookUp) -> impl Mistake {
+        move |call: &Call, before: &Store, store: &mut Store, answer| {
+            let (Call::Command(command), Answer::Booked(_) | Answer::Chain(_) | Answer::Refused(18)) = (call, answer)
+            else {
+                return answer;
+            };
+            let Some((delivering, receiving)) = in_order(command) else { return answer };
+            let rows = Rows::from(&before.directory);
+            match rows.chain_by(row, delivering.security, delivering.account, receiving.account) {
+                Ok((_, steps)) => with_steps(&steps, command, before, store, answer),
+                Err(number) => {
+                    store.clone_from(before);
+                    Answer::Refused(number)
+                }
+            }
+        }
+    }
+
+    /// The answer with other steps.
+    fn with_steps(steps: &[Step], command: &Command, before: &Store, store: &mut Store, answer: Answer) -> Answer {
+        let (Some((half, _)), true) = (in_order(command), before.steps.len() >= steps.len()) else { return answer };
+        let answer = match (command, answer) {
+            (Command::Derive { .. } | Command::DeriveSided { .. }, _) => Answer::Chain(steps.len()),
+            (_, Answer::Booked(_)) => Answer::Booked(steps.len()),
+            _ => return answer,
+        };
+        store.steps.clone_from(&before.steps);
+        store.steps[..steps.len()].copy_from_slice(steps);
+        if matches!(answer, Answer::Booked(_)) {
+            store.positions.clone_from(&before.positions);
+            let place = |account: u16| usize::from(account) * 16 + usize::from(half.security);
+            for step in steps {
+                store.positions[place(step.debit)].0 -= half.quantity.0;
+                store.positions[place(step.credit)].0 += half.quantity.0;
+            }
+        }
+        answer
+    }
+
+    fn first_of_two_csds(rows: &Rows, asked: &Asked) -> Option<Pair> {
+        let same = |row: &&Pair| row.investor == asked.investor && row.technical == asked.technical;
+        rows.pairs.iter().find(same).copied()
+    }
+
+    #[test]
+    fn the_served_account_is_not_looked_at() {
+        is_caught(looking_up(first_of_two_csds));
+    }
+
+    #[test]
+    fn the_served_account_is_looked_at_in_the_first_step_only() {
+        fn row(rows: &Rows, asked: &Asked) -> Option<Pair> {
+            if asked.served == asked.participant {
+                rows.row(asked)
+            } else {
+                first_of_two_csds(rows, asked)
+            }
+        }
+        is_caught(looking_up(row));
+    }
+
+    #[test]
+    fn the_participants_row_is_used_at_a_higher_step() {
+        fn row(rows: &Rows, asked: &Asked) -> Option<Pair> {
+            let own = |row: &&Pair| row.technical == asked.technical && row.served == asked.participant;
+            rows.pairs.iter().find(own).copied()
+        }
+        is_caught(looking_up(row));
+    }
+
+    #[test]
+    fn the_first_row_is_the_default_row() {
+        fn row(rows: &Rows, asked: &Asked) -> Option<Pair> {
+            rows.row(asked).or_else(|| first_of_two_csds(rows, asked))
+        }
+        is_caught(looking_up(row));
+    }
+
+    /// Document 000's way: on to the technical issuer of the CSD where the sides meet, and back.
+    fn beyond_the_turn(rows: &Rows, command: &Command, steps: &[Step]) -> Option<Vec<Step>> {
+        let (delivering, receiving) = in_order(command)?;
+        let (security, d, r) = (delivering.security, delivering.account, receiving.account);
+        if rows.turn(security, d, r)? != Turn::DifferentDuos {
+            return None;
+        }
+        let route = rows.route(security, d, r).ok()?;
+        let (turn, investor) = (route.up.len() - 1, *route.up.last()?);
+        let technical = rows.default_technical(security, investor).filter(|&csd| !rows.is_external(csd))?;
+        let Step { csd, debit, credit } = steps[turn];
+        let row = |served| rows.row(&Asked::first(investor, technical, served));
+        let (one, other) = (row(debit)?, row(credit)?);
+        let beyond = [
+            Step { csd, debit, credit: one.investor_account },
+            Step { csd: technical, debit: one.technical_account, credit: other.technical_account },
+            Step { csd, debit: other.investor_account, credit },
+        ];
+        Some([&steps[..turn], &beyond, &steps[turn + 1..]].concat())
+    }
+
+    #[test]
+    fn the_chain_goes_on_where_the_sides_have_different_omnibus_accounts() {
+        is_caught(|call, before, store, answer| match (call, answer) {
+            (Call::Command(command), Answer::Booked(length) | Answer::Chain(length)) => {
+                let rows = Rows::from(&before.directory);
+                match beyond_the_turn(&rows, command, &store.steps[..length]) {
+                    Some(steps) => with_steps(&steps, command, before, store, answer),
+                    None => answer,
+                }
+            }
+            _ => answer,
+        });
+    }
+
+    /// The row that a call brings in or takes out by, and what it moves.
+    fn moved(call: &Call) -> Option<(u8, u16)> {
+        match *call {
+            Call::Command(Command::BringIn { account, security, .. } | Command::TakeOut { account, security, .. }) => {
+                Some((security, account))
+            }
+            _ => None,
+        }
+    }
+
+    #[test]
+    fn bring_in_draws_on_the_first_inter_csd_account() {
+        is_caught(|call, before, store, answer| {
+            let rows = Rows::from(&before.directory);
+            let Some((security, account)) = moved(call).filter(|_| answer == Answer::Accepted) else { return answer };
+            let Some(Source::InterCsd(Found::OtherAccounts)) = rows.source_way(security, account) else {
+                return answer;
+            };
+            let investor = rows.accounts[usize::from(account)].csd;
+            let technical = rows.default_technical(security, investor).unwrap();
+            let own = Asked::first(investor, technical, account);
+            let place = |row: Option<Pair>| usize::from(row.unwrap().investor_account) * 16 + usize::from(security);
+            let (right, wrong) = (place(rows.row(&own)), place(first_of_two_csds(&rows, &own)));
+            let units = store.positions[right].0 - before.positions[right].0;
+            store.positions[right].0 -= units;
+            store.positions[wrong].0 += units;
+            answer
+        });
+    }
+
+    #[test]
+    fn bring_in_without_a_row_is_18() {
+        is_caught(|call, before, _, answer| match (moved(call), answer) {
+            (Some((security, account)), Answer::Refused(19)) => {
+                match Rows::from(&before.directory).source_way(security, account) {
+                    Some(Source::InterCsd(_)) => Answer::Refused(18),
+                    _ => answer,
+                }
+            }
+            _ => answer,
+        });
+    }
+
+    /// The new row of a call, and in which ways its answer is due.
+    fn entered(call: &Call, before: &Store, answer: Answer) -> Option<(Pair, Vec<&'static str>)> {
+        match (call, answer) {
+            (Call::Command(Command::EnterPair(new)), Answer::Accepted | Answer::Refused(5..)) => {
+                Some((*new, pairing::due(&Rows::from(&before.directory), new).1))
+            }
+            _ => None,
+        }
+    }
+
+    /// A row is accepted where it is refused in this way alone.
+    fn accepting(way: &'static str) -> impl Mistake {
+        move |call: &Call, before: &Store, store: &mut Store, answer| match entered(call, before, answer) {
+            Some((new, due)) if due == [way] => {
+                let table = &mut store.directory.pairs;
+                table.rows[table.count] = new;
+                table.count += 1;
+                Answer::Accepted
+            }
+            _ => answer,
+        }
+    }
+
+    /// A row is refused with another number where this way applies.
+    fn refusing(way: &'static str, number: u8) -> impl Mistake {
+        move |call: &Call, before: &Store, store: &mut Store, answer| match entered(call, before, answer) {
+            Some((_, due)) if due.contains(&way) => {
+                store.clone_from(before);
+                Answer::Refused(number)
+            }
+            _ => answer,
+        }
+    }
+
+    #[test]
+    fn a_mirror_is_shared_with_another_omnibus() {
+        is_caught(accepting("a mirror shared, its omnibus not"));
+    }
+
+    #[test]
+    fn an_omnibus_is_shared_with_another_mirror() {
+        is_caught(accepting("an omnibus shared, its mirror not"));
+    }
+
+    #[test]
+    fn two_duos_are_crossed() {
+        is_caught(accepting("mirror and omnibus of two duos"));
+    }
+
+    #[test]
+    fn rows_of_other_csds_share_an_account() {
+        is_caught(accepting("the first account of other CSDs"));
+        is_caught(accepting("the second account of other CSDs"));
+    }
+
+    #[test]
+    fn a_triplet_is_entered_again_with_other_accounts() {
+        is_caught(accepting("the same triplet, other accounts"));
+    }
+
+    #[test]
+    fn no_served_account_makes_a_default_row() {
+        is_caught(accepting("FFFF as served account"));
+    }
+
+    #[test]
+    fn a_mirror_is_served() {
+        is_caught(accepting("a mirror served"));
+    }
+
+    #[test]
+    fn the_other_column_is_not_looked_at() {
+        is_caught(refusing("a second account given first", 10));
+        is_caught(refusing("a first account given second", 10));
+    }
+
+    #[test]
+    fn a_second_account_with_an_external_issuer_is_always_11() {
+        is_caught(refusing("external issuer: first shared, second paired", 11));
+        is_caught(refusing("external issuer: first free, second paired", 11));
+    }
+
+    #[test]
+    fn a_triplet_is_the_same_without_its_investor() {
+        is_caught(refusing("an account of another CSD served, with its row", 9));
+    }
+
+    #[test]
+    fn two_csds_have_one_duo() {
+        is_caught(refusing("another duo of two CSDs", 9));
+    }
+
+    #[test]
+    fn a_duo_has_one_row() {
+        is_caught(refusing("a shared duo", 9));
+    }
+
+    #[test]
+    fn an_inter_csd_account_has_one_row() {
+        is_caught(refusing("a shared inter-CSD account", 9));
+    }
+
+    #[test]
+    fn a_served_account_that_is_an_omnibus_counts_as_shared() {
+        is_caught(refusing("an omnibus of a row served", 9));
+    }
+
+    #[test]
+    fn an_omnibus_that_is_served_counts_as_shared() {
+        is_caught(refusing("an omnibus that is served already", 9));
+    }
+
+    #[test]
+    fn the_table_is_full_at_64_rows() {
+        is_caught(|call, before, store, answer| match entered(call, before, answer) {
+            Some(_) if before.directory.pairs.count >= 64 => {
+                store.clone_from(before);
+                Answer::Refused(5)
+            }
+            _ => answer,
+        });
+    }
+
+    /// A program that still enters pairs by 04, for the first account.
+    struct Former;
+
+    impl Program for Former {
+        fn transcript(&mut self, input: &[u8]) -> Vec<u8> {
+            let mut reader = Reader::new(input);
+            let mut bytes = Vec::new();
+            while let Ok(command) = reader.command() {
+                command.write(&mut bytes);
+            }
+            match &input[bytes.len()..] {
+                [0x04, row @ ..] if row.len() >= 6 => {
+                    bytes.push(0x0E);
+                    bytes.extend([&row[..6], &[0, 0], &row[6..]].concat());
+                    Model.transcript(&bytes)
+                }
+                _ => Model.transcript(input),
+            }
+        }
+    }
+
+    #[test]
+    fn byte_04_still_enters_a_pair() {
+        let caught = (1..1000).find_map(|seed| differential::text_of(&streams::stream(seed), &mut Former).err());
+        println!("{caught:?}");
+        assert!(caught.is_some());
+    }
+}
+
 /// A failing stream comes down to the few commands that it takes.
 #[test]
 fn a_failing_stream_is_shortened() {
-    let mistake: Mistake = |call, _, _, answer| match (call, answer) {
-        (Call::Command(Command::PayIn { .. }), Answer::Accepted) => Answer::Refused(7),
-        _ => answer,
-    };
+    fn mistake(call: &Call, _: &Store, _: &mut Store, answer: Answer) -> Answer {
+        match (call, answer) {
+            (Call::Command(Command::PayIn { .. }), Answer::Accepted) => Answer::Refused(7),
+            _ => answer,
+        }
+    }
     let mut fails =
         |bytes: &[u8]| differential::stream_of(bytes, 1, &mut WrongDesk(mistake), &mut Coverage::default()).is_err();
-    let bytes = checker::trial::streams::stream(1);
+    let bytes = streams::stream(1);
     let short = differential::shortened(&bytes, &mut fails);
     assert!(fails(&short) && short.len() < 200, "{} of {} bytes", short.len(), bytes.len());
 }

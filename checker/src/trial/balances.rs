@@ -1,7 +1,9 @@
 //! Demand 3 over a list of calls, by operands and answers alone: what a call may have changed, and the
 //! balances that hold after it. Nothing is taken from the directory that an implementation returns.
 
-use super::implementation::{Answer, Call, Store};
+use std::collections::BTreeSet;
+
+use super::implementation::{same, Answer, Call, Store};
 use super::literal::{in_order, Rows};
 use crate::booking::{Cents, Units};
 use crate::command::Command;
@@ -10,6 +12,8 @@ use crate::directory::*;
 /// What the accepted calls so far say, and the positions and cash that follow from it.
 pub struct Balances {
     pub rows: Rows,
+    /// A mirror and an omnibus that one accepted row names, once however many rows share them.
+    duos: BTreeSet<(u16, u16)>,
     positions: Vec<Units>,
     cash: Vec<Cents>,
     brought_in: [i128; SECURITIES],
@@ -19,7 +23,8 @@ pub struct Balances {
 impl Default for Balances {
     fn default() -> Self {
         let Store { positions, cash, .. } = Store::empty();
-        Balances { rows: Rows::default(), positions, cash, brought_in: [0; SECURITIES], paid_in: 0 }
+        let (rows, duos) = (Rows::default(), BTreeSet::new());
+        Balances { rows, duos, positions, cash, brought_in: [0; SECURITIES], paid_in: 0 }
     }
 }
 
@@ -31,7 +36,7 @@ impl Balances {
         if accepted {
             self.expect(call, answer)?;
         }
-        if self.positions != left.positions || self.cash != left.cash {
+        if !same(&self.positions, &left.positions) || !same(&self.cash, &left.cash) {
             return Err("it moved something else than its operands and answer say".into());
         }
         if accepted {
@@ -47,7 +52,12 @@ impl Balances {
             Command::EnterCsd(row) => self.rows.csds.push(row),
             Command::EnterSecurity(row) => self.rows.securities.push(row),
             Command::EnterAccount(row) => self.rows.accounts.push(row),
-            Command::EnterPair(row) => self.rows.pairs.push(row),
+            Command::EnterPair(row) => {
+                self.rows.pairs.push(row);
+                if row.technical_account != NO_ACCOUNT {
+                    self.duos.insert((row.investor_account, row.technical_account));
+                }
+            }
             Command::EnterLink(row) => self.rows.links.push(row),
             Command::BringIn { account, security, quantity } => self.bring_in(account, security, quantity.0)?,
             Command::TakeOut { account, security, quantity } => self.bring_in(account, security, -quantity.0)?,
@@ -92,7 +102,7 @@ impl Balances {
         let mut participants = [0i128; SECURITIES];
         for (number, account) in self.rows.accounts.iter().enumerate() {
             let positions = &self.positions[number * SECURITIES..][..SECURITIES];
-            for (security, position) in positions.iter().enumerate() {
+            for (security, position) in positions.iter().enumerate().filter(|(_, position)| position.0 != 0) {
                 books[usize::from(account.csd)][security] += i128::from(position.0);
                 if account.kind == PARTICIPANT {
                     participants[security] += i128::from(position.0);
@@ -108,16 +118,17 @@ impl Balances {
         if participants != self.brought_in {
             return Err(format!("participants hold {participants:?}, not {:?}", self.brought_in));
         }
-        self.mirrors_hold()?;
+        self.duos_hold()?;
         self.cash_holds()
     }
 
-    fn mirrors_hold(&self) -> Result<(), String> {
-        for pair in self.rows.pairs.iter().filter(|pair| pair.technical_account != NO_ACCOUNT) {
+    /// "Mirror plus omnibus is zero for each duo."
+    fn duos_hold(&self) -> Result<(), String> {
+        for &(mirror, omnibus) in &self.duos {
             let positions = |account: u16| &self.positions[place(account, 0)..][..SECURITIES];
-            let mut both = positions(pair.investor_account).iter().zip(positions(pair.technical_account));
-            if both.any(|(mirror, omnibus)| i128::from(mirror.0) + i128::from(omnibus.0) != 0) {
-                return Err(format!("mirror {} and its omnibus differ", pair.investor_account));
+            let mut both = positions(mirror).iter().zip(positions(omnibus));
+            if both.any(|(one, other)| i128::from(one.0) + i128::from(other.0) != 0) {
+                return Err(format!("mirror {mirror} and omnibus {omnibus} differ"));
             }
         }
         Ok(())

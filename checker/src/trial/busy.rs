@@ -13,13 +13,22 @@ const ACCOUNT_BYTES: usize = 3;
 pub struct Market {
     pub scenario: Scenario,
     pub security: u8,
-    delivering: Vec<u16>,
-    receiving: Vec<u16>,
+    /// The participants of each CSD of a walk.
+    delivering: Vec<Vec<u16>>,
+    receiving: Vec<Vec<u16>>,
     neighbour: u16,
 }
 
+/// How many participants a CSD of the market has, and through how many omnibus accounts it holds for them.
+#[derive(Clone, Copy)]
+struct Holders {
+    participants: usize,
+    duos: usize,
+}
+
 impl Market {
-    /// With the two walks alone, or with every table full of other rows besides.
+    /// With the two walks and one participant each, or with many participants, who share the accounts of their CSD, and
+    /// every table full of other rows besides.
     pub fn new(full: bool) -> Market {
         let mut scenario = Scenario::default();
         let sides: [Vec<u8>; 2] = std::array::from_fn(|_| (0..8).map(|_| scenario.csd(IN_T2S)).collect());
@@ -27,42 +36,49 @@ impl Market {
         if full {
             fill_links(&mut scenario);
         }
-        let mut accounts = sides.iter().map(|side| side_of_market(&mut scenario, security, side));
-        let (delivering, receiving) = (accounts.next().unwrap_or_default(), accounts.next().unwrap_or_default());
+        let holders = if full { Holders { participants: 8, duos: 2 } } else { Holders { participants: 1, duos: 1 } };
+        let [delivering, receiving] =
+            sides.each_ref().map(|side| side_of_market(&mut scenario, security, side, holders));
         let neighbour = scenario.account(0, PARTICIPANT);
-        let _ = scenario.settle(delivering[0], neighbour, security, 1_000, 0);
+        let _ = scenario.settle(delivering[0][0], neighbour, security, 1_000, 0);
         if full {
-            fill_pairs_and_accounts(&mut scenario);
+            fill_pairs_and_accounts(&mut scenario, &sides.concat());
         }
         Market { scenario, security, delivering, receiving, neighbour }
     }
 
     /// Two participants with a chain of so many steps between them.
     pub fn trade(&self, steps: usize) -> (u16, u16) {
-        if steps == 1 {
-            return (self.delivering[0], self.neighbour);
-        }
-        let near = (steps - 1).min(8);
-        (self.delivering[8 - near], self.receiving[8 - (steps - near)])
+        self.trade_in_turn(steps, 0)
     }
 
-    /// Settles one unit there and back in turn, over so many steps and in the form drawn, until the stream is
-    /// as long as may be.
+    /// The same, with the participants of both CSDs taken in turn.
+    fn trade_in_turn(&self, steps: usize, turn: usize) -> (u16, u16) {
+        let participants = self.delivering[0].len();
+        let (one, other) = (turn % participants, turn / participants % participants);
+        if steps == 1 {
+            return (self.delivering[0][one], self.neighbour);
+        }
+        let near = (steps - 1).min(8);
+        (self.delivering[8 - near][one], self.receiving[8 - (steps - near)][other])
+    }
+
+    /// Settles one unit there and back, over so many steps and in the form drawn, until the stream is as long as
+    /// may be.
     pub fn settle_to_the_limit(mut self, mut draw: impl FnMut() -> (usize, Form)) -> Vec<u8> {
-        let mut there = true;
-        loop {
+        for turn in 0.. {
             let length = self.scenario.bytes.len();
             let (steps, form) = draw();
-            let (one, other) = self.trade(steps);
-            let (from, to) = if there { (one, other) } else { (other, one) };
+            let (one, other) = self.trade_in_turn(steps, turn / 2);
+            let (from, to) = if turn % 2 == 0 { (one, other) } else { (other, one) };
             let (delivering, receiving) = halves(self.scenario.directory(), from, to, self.security, 1, 0);
             let _ = self.scenario.send(form.settle(delivering, receiving));
             if self.scenario.bytes.len() > INPUT_LIMIT {
                 self.scenario.bytes.truncate(length);
-                return self.scenario.bytes;
+                break;
             }
-            there = !there;
         }
+        self.scenario.bytes
     }
 }
 
@@ -90,25 +106,36 @@ pub fn mixed() -> Vec<u8> {
     bytes
 }
 
-/// Links, pairs and participants from the start of a side to its issuer, and holdings for all.
-fn side_of_market(scenario: &mut Scenario, security: u8, side: &[u8]) -> Vec<u16> {
+/// Links, participants and pair rows from the start of a side to its issuer, and holdings for all. The participants of
+/// a CSD are served by its omnibus accounts in turn, and each of these by one of the next.
+fn side_of_market(scenario: &mut Scenario, security: u8, side: &[u8], holders: Holders) -> Vec<Vec<u16>> {
     scenario.issuer(security, side[7]);
     for hop in side.windows(2) {
         scenario.link(security, hop[0], hop[1], DEFAULT);
-        scenario.pair(hop[0], hop[1]);
     }
-    let accounts: Vec<u16> = side.iter().map(|&csd| scenario.participant(csd)).collect();
-    let _ = scenario.bring_in(accounts[7], security, 1_000_000);
-    for &account in &accounts[..7] {
-        let _ = scenario.settle(accounts[7], account, security, 100_000, 0);
+    let accounts: Vec<Vec<u16>> = (0..8)
+        .map(|place| {
+            let accounts = (0..holders.participants).map(|number| {
+                let account = scenario.account(side[place], PARTICIPANT);
+                scenario.climb(account, &side[place..], number % holders.duos);
+                account
+            });
+            accounts.collect()
+        })
+        .collect();
+    let source = accounts[7][0];
+    let _ = scenario.bring_in(source, security, 1_000_000);
+    for &account in accounts.iter().flatten().filter(|&&account| account != source) {
+        let _ = scenario.settle(source, account, security, 10_000, 0);
     }
     accounts
 }
 
-/// Sixteen more CSDs and fifteen securities, with links until these and the links of the market fill the table.
+/// Sixteen more CSDs, half of them external, and fifteen securities, with links until these and the links of the market
+/// fill the table.
 fn fill_links(scenario: &mut Scenario) {
-    for _ in 16..CSDS {
-        scenario.csd(IN_T2S);
+    for csd in 16..CSDS {
+        scenario.csd(if csd < 24 { IN_T2S } else { EXTERNAL });
     }
     for security in 1..SECURITIES as u8 {
         scenario.security();
@@ -120,35 +147,47 @@ fn fill_links(scenario: &mut Scenario) {
     }
 }
 
-fn fill_pairs_and_accounts(scenario: &mut Scenario) {
-    for investor in 16..32 {
-        for technical in 0..4 {
-            if scenario.directory().pairs.count < PAIRS {
-                scenario.pair(investor, technical);
+/// Rows of the market's participant and omnibus accounts at one more CSD in T2S and then at external ones.
+fn fill_pairs_and_accounts(scenario: &mut Scenario, investors: &[u8]) {
+    for technical in [16, 24, 25] {
+        for &investor in investors {
+            for account in served_accounts(scenario, investor) {
+                if !scenario.directory().pairs.is_full() {
+                    scenario.serve(account, technical, 0);
+                }
             }
         }
     }
-    while scenario.directory().accounts.count < ACCOUNTS {
+    while !scenario.directory().accounts.is_full() {
         scenario.account(20, PARTICIPANT);
     }
 }
 
+/// The participant and omnibus accounts of a CSD.
+fn served_accounts(scenario: &Scenario, csd: u8) -> Vec<u16> {
+    let rows = scenario.directory().accounts.entered().unwrap_or_default();
+    let fits = |row: &Account| row.csd == csd && matches!(row.kind, PARTICIPANT | OMNIBUS);
+    rows.iter().zip(0..).filter(|(row, _)| fits(row)).map(|(_, number)| number).collect()
+}
+
 #[cfg(test)]
 mod tests {
+    use std::collections::BTreeSet;
+
     use super::*;
     use crate::command::{Command, Reader};
-    use crate::transcript;
+    use crate::transcript::{transcript, Done};
 
     #[test]
     fn trades_have_their_lengths() {
         for full in [false, true] {
             let mut market = Market::new(full);
-            for steps in 1..=16 {
-                let (from, to) = market.trade(steps);
-                assert!(market.scenario.settle(from, to, market.security, 1, 0).is_ok());
-                let text = String::from_utf8(transcript(&market.scenario.bytes)).unwrap();
-                let last = text.lines().rev().find(|line| line.contains("booked")).unwrap();
-                assert!(last.ends_with(&format!("booked {steps}")), "{last}");
+            for (steps, turn) in (1..=16).flat_map(|steps| [0, 1, 9, 63].map(|turn| (steps, turn))) {
+                let (from, to) = market.trade_in_turn(steps, turn);
+                let Ok(Done::Booked(chain)) = market.scenario.settle(from, to, market.security, 1, 0) else {
+                    panic!("no chain of {steps} in turn {turn}");
+                };
+                assert_eq!(chain.len(), steps);
             }
         }
     }
@@ -160,6 +199,17 @@ mod tests {
         let counts = [directory.csds.count, directory.securities.count, directory.accounts.count];
         assert_eq!(counts, [CSDS, SECURITIES, ACCOUNTS]);
         assert_eq!([directory.pairs.count, directory.links.count], [PAIRS, LINKS]);
+    }
+
+    #[test]
+    fn participants_share_two_omnibus_accounts() {
+        let market = Market::new(true);
+        for hop in (0..7).chain(8..15) {
+            let rows = market.scenario.directory().pairs.rows.iter();
+            let rows: Vec<&Pair> = rows.filter(|row| row.investor == hop && row.technical == hop + 1).collect();
+            let omnibus: BTreeSet<u16> = rows.iter().map(|row| row.technical_account).collect();
+            assert_eq!((rows.len(), omnibus.len()), (if hop % 8 == 0 { 8 } else { 10 }, 2));
+        }
     }
 
     #[test]

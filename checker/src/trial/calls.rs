@@ -14,16 +14,16 @@ use crate::directory::*;
 /// lists of other lengths, and often a directory that is no longer sound.
 pub fn store(random: &mut Random) -> Store {
     let mut scenario = streams::scenario(random);
-    for _ in 0..random.pick(&[0, 6, 12]) {
-        let csd = random.below(4) as u8;
-        scenario.account(csd, random.below(5) as u8);
-    }
+    streams::open_accounts(random, &mut scenario);
     let mut store = Store {
         directory: scenario.directory().clone(),
         positions: scenario.session.positions().to_vec(),
         cash: scenario.session.cash().to_vec(),
         steps: Vec::new(),
     };
+    if random.percent(50) {
+        drop_pairs(random, &mut store.directory.pairs);
+    }
     if random.percent(60) {
         scatter_junk(random, &mut store.directory);
     }
@@ -73,6 +73,21 @@ pub fn steps(random: &mut Random) -> Vec<Step> {
     list
 }
 
+/// Takes out a pair row, or all of its two CSDs. What is left is sound as before.
+fn drop_pairs(random: &mut Random, pairs: &mut Table<Pair, PAIRS>) {
+    let mut rows = pairs.entered().unwrap_or_default().to_vec();
+    let outside: Vec<Pair> = rows.iter().filter(|row| row.technical_account == NO_ACCOUNT).copied().collect();
+    let from = if outside.is_empty() || random.percent(30) { &rows } else { &outside };
+    if from.is_empty() {
+        return;
+    }
+    let (dropped, all) = (random.pick(from), random.percent(40));
+    let same = |row: &Pair| [row.investor, row.technical] == [dropped.investor, dropped.technical];
+    rows.retain(|row| if all { !same(row) } else { *row != dropped });
+    pairs.count = rows.len();
+    pairs.rows[..rows.len()].copy_from_slice(&rows);
+}
+
 /// Rows behind the counts are never judged.
 fn scatter_junk(random: &mut Random, directory: &mut Directory) {
     let Directory { csds, securities, accounts, pairs, links } = directory;
@@ -86,8 +101,9 @@ fn scatter_junk(random: &mut Random, directory: &mut Directory) {
         *row = Account { csd: random.byte() % 4, kind: random.byte() % 4 };
     }
     for row in &mut pairs.rows[pairs.count..] {
-        let [investor, technical, one, other] = random.bits().to_be_bytes()[..4].try_into().unwrap();
-        *row = Pair { investor, technical, investor_account: one.into(), technical_account: other.into() };
+        let [investor, technical, one, other, served] = random.bits().to_be_bytes()[..5].try_into().unwrap();
+        let (investor_account, technical_account) = (one.into(), other.into());
+        *row = Pair { investor, technical, investor_account, technical_account, served: served.into() };
     }
     for row in &mut links.rows[links.count..] {
         let [csd, technical, account] = random.bits().to_be_bytes()[..3].try_into().unwrap();

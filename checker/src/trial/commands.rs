@@ -10,9 +10,9 @@ use crate::directory::*;
 use crate::register::Register;
 
 /// How often each command is drawn.
-const CODES: [u8; 30] = [
-    0x01, 0x02, 0x02, 0x03, 0x04, 0x04, 0x05, 0x05, 0x05, 0x06, 0x06, 0x07, 0x07, 0x08, 0x09, 0x0A, 0x0A, 0x0A, 0x0B,
-    0x0B, 0x0B, 0x0C, 0x0C, 0x0C, 0x0C, 0x0C, 0x0D, 0x0D, 0x0D, 0x0D,
+const CODES: [u8; 33] = [
+    0x01, 0x02, 0x02, 0x03, 0x03, 0x05, 0x05, 0x05, 0x06, 0x06, 0x07, 0x07, 0x08, 0x09, 0x0A, 0x0A, 0x0A, 0x0B, 0x0B,
+    0x0B, 0x0C, 0x0C, 0x0C, 0x0C, 0x0C, 0x0D, 0x0D, 0x0D, 0x0D, 0x0E, 0x0E, 0x0E, 0x0E,
 ];
 
 pub fn command(random: &mut Random, directory: &Directory) -> Command {
@@ -22,8 +22,22 @@ pub fn command(random: &mut Random, directory: &Directory) -> Command {
 
 /// A row of any table.
 pub fn entry(random: &mut Random, directory: &Directory) -> Command {
-    let code = random.between(1, 5) as u8;
+    let code = random.pick(&[0x01, 0x02, 0x03, 0x05, 0x0E]);
     command_of(code, random, directory)
+}
+
+/// An account of any CSD, often of one that pair rows name.
+pub fn account(random: &mut Random, directory: &Directory) -> Account {
+    Draw { random, directory }.account_row()
+}
+
+/// A pair row as the byte 04 entered it, without a served account.
+pub fn former_pair(random: &mut Random, directory: &Directory) -> Vec<u8> {
+    let mut bytes = Vec::new();
+    Command::EnterPair(Draw { random, directory }.pair_row()).write(&mut bytes);
+    bytes[0] = 0x04;
+    bytes.truncate(bytes.len() - 2);
+    bytes
 }
 
 fn command_of(code: u8, random: &mut Random, directory: &Directory) -> Command {
@@ -32,7 +46,6 @@ fn command_of(code: u8, random: &mut Random, directory: &Directory) -> Command {
         0x01 => Command::EnterCsd(draw.csd_row()),
         0x02 => Command::EnterSecurity(draw.security_row()),
         0x03 => Command::EnterAccount(draw.account_row()),
-        0x04 => Command::EnterPair(draw.pair_row()),
         0x05 => Command::EnterLink(draw.link_row()),
         0x06 => Command::BringIn { account: draw.participant(), security: draw.security(), quantity: draw.units() },
         0x07 => Command::TakeOut { account: draw.participant(), security: draw.security(), quantity: draw.units() },
@@ -41,7 +54,8 @@ fn command_of(code: u8, random: &mut Random, directory: &Directory) -> Command {
         0x0A => draw.halves(|delivering, receiving| Command::Settle { delivering, receiving }),
         0x0B => draw.halves(|delivering, receiving| Command::Derive { delivering, receiving }),
         0x0C => draw.sided_halves(|first, second| Command::SettleSided { first, second }),
-        _ => draw.sided_halves(|first, second| Command::DeriveSided { first, second }),
+        0x0D => draw.sided_halves(|first, second| Command::DeriveSided { first, second }),
+        _ => Command::EnterPair(draw.pair_row()),
     };
     if random.percent(20) {
         damaged(random, command)
@@ -169,25 +183,115 @@ impl Draw<'_> {
     }
 
     fn account_row(&mut self) -> Account {
-        Account { csd: self.csd(), kind: self.random.pick(&[PARTICIPANT, OMNIBUS, MIRROR, INTER_CSD, ISSUANCE]) }
+        let kind = self.random.pick(&[PARTICIPANT, OMNIBUS, MIRROR, INTER_CSD, ISSUANCE]);
+        let pairs = self.directory.pairs.entered().unwrap_or_default();
+        if pairs.is_empty() || self.random.percent(50) {
+            return Account { csd: self.csd(), kind };
+        }
+        let row = self.random.pick(pairs);
+        if row.technical_account == NO_ACCOUNT {
+            return Account { csd: row.investor, kind: self.random.pick(&[INTER_CSD, kind]) };
+        }
+        Account { csd: self.random.pick(&[row.investor, row.technical]), kind }
     }
 
+    /// A row of two CSDs, mostly near one that is entered.
     fn pair_row(&mut self) -> Pair {
-        let investor = self.csd();
-        let technical = if self.random.percent(10) { investor } else { self.csd() };
-        let external = self.is_external(technical);
+        let entered = self.directory.pairs.entered().unwrap_or_default();
+        if entered.is_empty() || self.random.percent(25) {
+            let investor = self.csd();
+            let technical = if self.random.percent(25) { investor } else { self.csd() };
+            return self.fresh_pair(investor, technical);
+        }
+        let row = self.random.pick(entered);
+        self.pair_near(row)
+    }
+
+    /// A row that keeps something of an entered one.
+    fn pair_near(&mut self, row: Pair) -> Pair {
+        let fresh = self.fresh_pair(row.investor, row.technical);
+        let served = fresh.served;
+        let shared = Pair { served, ..row };
+        if row.technical_account == NO_ACCOUNT && self.random.percent(35) {
+            let kept = self.random.pick(&[shared, fresh, fresh]);
+            return Pair { technical_account: self.account(|_, _| true), ..kept };
+        }
+        match self.random.below(19) {
+            0..=2 => shared,
+            3 => fresh,
+            4 => row,
+            5 => Pair { served: row.served, ..fresh },
+            6 => Pair { investor_account: row.investor_account, ..fresh },
+            7 => Pair { technical_account: row.technical_account, ..fresh },
+            8 => Pair { technical_account: self.pair_of(row.investor, row.technical).technical_account, ..shared },
+            9 => {
+                let technical = self.csd();
+                Pair { investor_account: row.investor_account, ..self.fresh_pair(row.investor, technical) }
+            }
+            10 => {
+                let investor = self.csd();
+                Pair { technical_account: row.technical_account, ..self.fresh_pair(investor, row.technical) }
+            }
+            11 => Pair { investor_account: row.technical_account, ..fresh },
+            12 => Pair { technical_account: row.investor_account, ..fresh },
+            13 => {
+                let investor = self.csd();
+                Pair { served: row.served, ..self.fresh_pair(investor, row.technical) }
+            }
+            14 => {
+                let (csd, kind) = (self.csd(), self.random.pick(&[MIRROR, INTER_CSD, PARTICIPANT]));
+                Pair { investor_account: self.free_account(csd, kind), ..fresh }
+            }
+            15 => {
+                let (csd, kind) = (self.csd(), self.random.pick(&[OMNIBUS, OMNIBUS, PARTICIPANT]));
+                Pair { technical_account: self.free_account(csd, kind), ..fresh }
+            }
+            _ => Pair { served: self.wrong_served(row.investor), ..row },
+        }
+    }
+
+    /// Accounts for two CSDs that are mostly in no row, and a served account.
+    fn fresh_pair(&mut self, investor: u8, technical: u8) -> Pair {
+        let (investor_account, technical_account) = if self.is_external(technical) {
+            (self.free_account(investor, INTER_CSD), NO_ACCOUNT)
+        } else {
+            (self.free_account(investor, MIRROR), self.free_account(technical, OMNIBUS))
+        };
+        Pair { investor, technical, investor_account, technical_account, served: self.served(investor, technical) }
+    }
+
+    /// A row of these two CSDs.
+    fn pair_of(&mut self, investor: u8, technical: u8) -> Pair {
+        let rows = self.directory.pairs.entered().unwrap_or_default().iter();
+        let same: Vec<Pair> =
+            rows.filter(|row| row.investor == investor && row.technical == technical).copied().collect();
+        self.random.pick(&same)
+    }
+
+    fn free_account(&mut self, csd: u8, kind: u8) -> u16 {
         let pairs = self.directory.pairs.entered().unwrap_or_default();
         let free = |number| !pairs.iter().any(|row| row.investor_account == number || row.technical_account == number);
-        let fresh = self.random.percent(85);
-        let mut fitting =
-            |csd, kind| self.account(|number, row| *row == Account { csd, kind } && (!fresh || free(number)));
-        if external {
-            let investor_account = fitting(investor, INTER_CSD);
-            let technical_account = if self.random.percent(90) { NO_ACCOUNT } else { self.account(|_, _| true) };
-            Pair { investor, technical, investor_account, technical_account }
-        } else {
-            let (investor_account, technical_account) = (fitting(investor, MIRROR), fitting(technical, OMNIBUS));
-            Pair { investor, technical, investor_account, technical_account }
+        let fresh = self.random.percent(90);
+        self.account(|number, row| *row == Account { csd, kind } && (!fresh || free(number)))
+    }
+
+    /// A participant or omnibus account of the investor, mostly without a row at the technical issuer.
+    fn served(&mut self, investor: u8, technical: u8) -> u16 {
+        let pairs = self.directory.pairs.entered().unwrap_or_default();
+        let has_row = |number| pairs.iter().any(|row| row.technical == technical && row.served == number);
+        let fresh = self.random.percent(90);
+        self.account(|number, row| row.csd == investor && row.kind <= OMNIBUS && !(fresh && has_row(number)))
+    }
+
+    /// An account that may not be served, or none.
+    fn wrong_served(&mut self, investor: u8) -> u16 {
+        match self.random.below(6) {
+            0 => NO_ACCOUNT,
+            1 => self.account(|_, row| row.csd != investor && row.kind <= OMNIBUS),
+            _ => {
+                let kind = self.random.pick(&[MIRROR, INTER_CSD, ISSUANCE]);
+                self.account(|_, row| *row == Account { csd: investor, kind })
+            }
         }
     }
 

@@ -1,30 +1,32 @@
 //! Counters of what random inputs reached, and the tables of what the documents let occur.
 
 use std::collections::BTreeMap;
-use std::fmt::{self, Display, Formatter};
+use std::fmt::{self, Debug, Display, Formatter};
 use std::ops::RangeInclusive;
 
+use super::climbs::{all_hops, HopWay, Source, Turn, SOURCES, TURNS};
 use super::implementation::{Answer, Call};
-use super::literal::ChainKind;
+use super::literal::{in_order, ChainKind, Rows};
+use super::pairing;
 use crate::command::Command;
 use crate::directory::{Bic, Csd};
 
-/// A command's name with the refusals that it can give in a stream, and those that it can give as a
+/// A command's byte and name with the refusals that it can give in a stream, and those that it can give as a
 /// single call besides. Over a store reached from empty a pay-out never ends beyond the bound.
-pub const COMMANDS: [(&str, &[u8], &[u8]); 13] = [
-    ("enter CSD", &[2, 5, 7, 9], &[4]),
-    ("enter security", &[2, 5, 7, 8, 9], &[4]),
-    ("enter account", &[2, 5, 6, 7, 10], &[4]),
-    ("enter pair", &[2, 5, 6, 9, 10, 11], &[4]),
-    ("enter link", &[2, 5, 6, 7, 9, 10, 11], &[4]),
-    ("bring in", &[2, 6, 7, 10, 19, 22], &[3, 4]),
-    ("take out", &[2, 6, 7, 10, 19, 20, 22], &[3, 4]),
-    ("pay in", &[2, 6, 7, 10, 22], &[3, 4]),
-    ("pay out", &[2, 6, 7, 10, 21], &[3, 4, 22]),
-    ("settle", &[2, 6, 7, 10, 12, 13, 14, 15, 16, 17, 18, 20, 21, 22], &[3, 4]),
-    ("derive", &[2, 6, 7, 10, 12, 13, 14, 15, 16, 17, 18], &[3, 4]),
-    ("settle sided", &[2, 6, 7, 10, 23, 12, 13, 14, 15, 16, 17, 18, 20, 21, 22], &[3, 4]),
-    ("derive sided", &[2, 6, 7, 10, 23, 12, 13, 14, 15, 16, 17, 18], &[3, 4]),
+pub const COMMANDS: [(u8, &str, &[u8], &[u8]); 13] = [
+    (0x01, "enter CSD", &[2, 5, 7, 9], &[4]),
+    (0x02, "enter security", &[2, 5, 7, 8, 9], &[4]),
+    (0x03, "enter account", &[2, 5, 6, 7, 10], &[4]),
+    (0x05, "enter link", &[2, 5, 6, 7, 9, 10, 11], &[4]),
+    (0x06, "bring in", &[2, 6, 7, 10, 19, 22], &[3, 4]),
+    (0x07, "take out", &[2, 6, 7, 10, 19, 20, 22], &[3, 4]),
+    (0x08, "pay in", &[2, 6, 7, 10, 22], &[3, 4]),
+    (0x09, "pay out", &[2, 6, 7, 10, 21], &[3, 4, 22]),
+    (0x0A, "settle", &[2, 6, 7, 10, 12, 13, 14, 15, 16, 17, 18, 20, 21, 22], &[3, 4]),
+    (0x0B, "derive", &[2, 6, 7, 10, 12, 13, 14, 15, 16, 17, 18], &[3, 4]),
+    (0x0C, "settle sided", &[2, 6, 7, 10, 23, 12, 13, 14, 15, 16, 17, 18, 20, 21, 22], &[3, 4]),
+    (0x0D, "derive sided", &[2, 6, 7, 10, 23, 12, 13, 14, 15, 16, 17, 18], &[3, 4]),
+    (0x0E, "enter pair", &[2, 5, 6, 9, 10, 11], &[4]),
 ];
 
 /// How the sides of a sided command can stand, with what a call can then be answered beyond 4; 0 stands for
@@ -63,8 +65,9 @@ pub const FLAWS: [(&str, &[u8]); 5] = [
 /// The refusals of the calls that no stream can command.
 pub const TOTALS: [(&str, &[u8]); 2] = [("total", &[3, 4, 6, 22]), ("cash total", &[3, 22])];
 
-/// A byte that is no command.
+/// A byte that is no command, and the one that was.
 pub const UNKNOWN: &str = "unknown byte";
+pub const FORMER: &str = "former byte 04";
 
 /// The lengths that a chain of each kind can have.
 pub const LENGTHS: [(ChainKind, RangeInclusive<usize>); 7] = [
@@ -85,11 +88,16 @@ pub struct Coverage {
     bics: BTreeMap<(&'static str, u8), u64>,
     flaws: BTreeMap<(&'static str, u8), u64>,
     chains: BTreeMap<(&'static str, ChainKind, usize), u64>,
+    pairs: BTreeMap<(&'static str, u8), u64>,
+    hops: BTreeMap<(HopWay, u8), u64>,
+    turns: BTreeMap<Turn, u64>,
+    sources: BTreeMap<(&'static str, (Source, u8)), u64>,
 }
 
 /// The name of a command by its byte.
 pub fn command_name(code: u8) -> &'static str {
-    usize::from(code).checked_sub(1).and_then(|index| COMMANDS.get(index)).map_or(UNKNOWN, |row| row.0)
+    let known = COMMANDS.iter().find(|row| row.0 == code).map(|row| row.1);
+    known.unwrap_or(if code == 0x04 { FORMER } else { UNKNOWN })
 }
 
 pub fn call_name(call: &Call) -> &'static str {
@@ -136,17 +144,45 @@ fn bic_names(new: &Bic, entered: &[Csd]) -> Vec<&'static str> {
 }
 
 impl Coverage {
-    /// Counts the answer to a call, over the CSDs that were entered before it.
-    pub fn call(&mut self, call: &Call, answer: &Answer, entered: &[Csd]) {
+    /// Counts the answer to a call, over the rows that were entered before it.
+    pub fn call(&mut self, call: &Call, answer: &Answer, rows: &Rows) {
         self.answer(call_name(call), answer);
-        let Call::Command(command) = call else { return };
-        if let (Some(name), false) = (sides_name(command), matches!(answer, Answer::Refused(3..=4))) {
-            *self.sides.entry((name, number(answer))).or_default() += 1;
+        let (Call::Command(command), false) = (call, matches!(answer, Answer::Refused(3..=4))) else { return };
+        let number = number(answer);
+        if let Some(name) = sides_name(command) {
+            *self.sides.entry((name, number)).or_default() += 1;
         }
-        if let (Command::EnterCsd(new), Answer::Accepted | Answer::Refused(9)) = (command, answer) {
-            for name in bic_names(&new.bic, entered) {
-                *self.bics.entry((name, number(answer))).or_default() += 1;
+        match (command, number) {
+            (Command::EnterCsd(new), 0 | 9) => {
+                for name in bic_names(&new.bic, &rows.csds) {
+                    *self.bics.entry((name, number)).or_default() += 1;
+                }
             }
+            (Command::EnterPair(new), _) => {
+                let (_, ways) = pairing::due(rows, new);
+                for name in ways.iter().filter(|_| number == 0 || ways.len() == 1) {
+                    *self.pairs.entry((name, number)).or_default() += 1;
+                }
+            }
+            (Command::BringIn { account, security, .. } | Command::TakeOut { account, security, .. }, 0 | 19) => {
+                if let Some(source) = rows.source_way(*security, *account) {
+                    *self.sources.entry((call_name(call), (source, number))).or_default() += 1;
+                }
+            }
+            (_, 0 | 18) => self.climbs(command, number, rows),
+            _ => {}
+        }
+    }
+
+    /// Counts how the rows of a chain were found, or which one was not.
+    fn climbs(&mut self, command: &Command, number: u8, rows: &Rows) {
+        let Some((delivering, receiving)) = in_order(command) else { return };
+        let (security, d, r) = (delivering.security, delivering.account, receiving.account);
+        for hop in rows.hops(security, d, r) {
+            *self.hops.entry((hop, number)).or_default() += 1;
+        }
+        if let (0, Some(turn)) = (number, rows.turn(security, d, r)) {
+            *self.turns.entry(turn).or_default() += 1;
         }
     }
 
@@ -171,21 +207,22 @@ impl Coverage {
 
     /// What streams must have reached and have not, or have reached and must not.
     pub fn of_streams(&self) -> Vec<String> {
-        let expected = COMMANDS.iter().flat_map(|&(name, refusals, _)| numbered(name, &[refusals, &[0]].concat()));
-        let wrong = compare(&self.answers, expected.chain([(UNKNOWN, 1)]).collect());
-        [wrong, self.sides_missing(), self.bics_missing(), self.chains_missing()].concat()
+        let expected = COMMANDS.iter().flat_map(|&(_, name, refusals, _)| numbered(name, &[refusals, &[0]].concat()));
+        let wrong = compare(&self.answers, expected.chain([(UNKNOWN, 1), (FORMER, 1)]).collect());
+        [wrong, self.sides_missing(), self.bics_missing(), self.rows_missing(), self.chains_missing()].concat()
     }
 
     /// The same for single calls.
     pub fn of_calls(&self) -> Vec<String> {
-        let commands = COMMANDS.iter().flat_map(|&(name, refusals, besides)| {
+        let commands = COMMANDS.iter().flat_map(|&(_, name, refusals, besides)| {
             let refusals: Vec<u8> = refusals.iter().copied().filter(|&number| number > 2).collect();
             numbered(name, &[&refusals, besides, &[0]].concat())
         });
         let totals = TOTALS.iter().flat_map(|&(name, refusals)| numbered(name, &[refusals, &[0]].concat()));
         let flaws = FLAWS.iter().flat_map(|&(table, numbers)| numbered(table, numbers));
         let wrong = compare(&self.answers, commands.chain(totals).collect());
-        [wrong, self.sides_missing(), self.bics_missing(), compare(&self.flaws, flaws.collect())].concat()
+        let flaws = compare(&self.flaws, flaws.collect());
+        [wrong, self.sides_missing(), self.bics_missing(), self.rows_missing(), flaws].concat()
     }
 
     fn sides_missing(&self) -> Vec<String> {
@@ -196,16 +233,27 @@ impl Coverage {
         compare(&self.bics, BICS.iter().flat_map(|&(name, numbers)| numbered(name, numbers)).collect())
     }
 
+    /// Pair rows: each way in which one can be answered, and each way in which one is found.
+    fn rows_missing(&self) -> Vec<String> {
+        let hops = all_hops().into_iter().map(|hop| (hop, if hop.3.is_missing() { 18 } else { 0 }));
+        let moves = [0x06, 0x07].map(command_name);
+        let sources = moves.iter().flat_map(|&name| SOURCES.map(|source| (name, source)));
+        [
+            compare(&self.pairs, pairing::all_ways()),
+            compare(&self.hops, hops.collect()),
+            compare(&self.turns, TURNS.to_vec()),
+            compare(&self.sources, sources.collect()),
+        ]
+        .concat()
+    }
+
     fn chains_missing(&self) -> Vec<String> {
         let sided = SIDES.iter().filter(|(_, numbers)| numbers.contains(&0)).map(|&(name, _)| name);
         let names: Vec<_> = [command_name(0x0A), command_name(0x0B)].into_iter().chain(sided).collect();
         let possible = LENGTHS.iter().flat_map(|(kind, lengths)| lengths.clone().map(|length| (*kind, length)));
         let possible: Vec<_> =
             names.iter().flat_map(|&name| possible.clone().map(move |(k, n)| (name, k, n))).collect();
-        let missing = possible.iter().filter(|key| !self.chains.contains_key(*key));
-        let missing = missing.map(|(name, kind, length)| format!("{name}: no {kind:?} of {length} steps"));
-        let strange = self.chains.keys().filter(|key| !possible.contains(key));
-        missing.chain(strange.map(|(name, kind, length)| format!("{name}: a {kind:?} of {length} steps"))).collect()
+        compare(&self.chains, possible)
     }
 }
 
@@ -219,11 +267,11 @@ fn number(answer: &Answer) -> u8 {
 }
 
 /// What is missing of the expected, and what is seen besides.
-fn compare(seen: &BTreeMap<(&'static str, u8), u64>, expected: Vec<(&'static str, u8)>) -> Vec<String> {
+fn compare<Key: Ord + Debug>(seen: &BTreeMap<Key, u64>, expected: Vec<Key>) -> Vec<String> {
     let missing = expected.iter().filter(|key| !seen.contains_key(*key));
-    let missing = missing.map(|(name, number)| format!("{name}: {number} never seen"));
+    let missing = missing.map(|key| format!("{key:?} never seen"));
     let strange = seen.keys().filter(|key| !expected.contains(key));
-    let strange = strange.map(|(name, number)| format!("{name}: {number} seen, though it cannot occur"));
+    let strange = strange.map(|key| format!("{key:?} seen, though it cannot occur"));
     missing.chain(strange).collect()
 }
 
@@ -233,9 +281,18 @@ fn numbered(name: &'static str, numbers: &[u8]) -> Vec<(&'static str, u8)> {
 
 impl Display for Coverage {
     fn fmt(&self, formatter: &mut Formatter) -> fmt::Result {
-        for ((name, number), times) in self.answers.iter().chain(&self.sides).chain(&self.bics) {
+        for ((name, number), times) in self.answers.iter().chain(&self.sides).chain(&self.bics).chain(&self.pairs) {
             let answer = if *number == 0 { "accepted".into() } else { format!("no {number}") };
-            writeln!(formatter, "{name:30} {answer:9} {times:9}")?;
+            writeln!(formatter, "{name:48} {answer:9} {times:9}")?;
+        }
+        for ((hop, number), times) in &self.hops {
+            writeln!(formatter, "{hop:?} {number}: {times}")?;
+        }
+        for (turn, times) in &self.turns {
+            writeln!(formatter, "{turn:?}: {times}")?;
+        }
+        for ((name, source), times) in &self.sources {
+            writeln!(formatter, "{name}, {source:?}: {times}")?;
         }
         for ((table, number), times) in &self.flaws {
             writeln!(formatter, "unsound by {table}: {number:3} {times:9}")?;

@@ -5,8 +5,9 @@ use super::balances::Balances;
 use super::calls;
 use super::coverage::{command_name, Coverage};
 use super::forms::{others, turned_stream};
-use super::implementation::{copy, Answer, Call, Implementation, Model, Program, Store};
+use super::implementation::{copy, same, Answer, Call, Implementation, Model, Program, Store};
 use super::literal::{in_order, Rows};
+use super::pairing;
 use super::random::Random;
 use super::streams;
 use crate::chain::{Step, STEPS};
@@ -96,11 +97,10 @@ pub fn calls(seed: u64, subject: &mut impl Implementation, coverage: &mut Covera
         if matches!(answer, Answer::Refused(_)) && other != before {
             return Err(place("refused, but something changed".into()));
         }
-        coverage.call(&call, &answer, before.directory.csds.entered().unwrap_or_default());
-        if matches!(answer, Answer::Booked(_) | Answer::Chain(_) | Answer::Refused(14..=18)) {
-            let rows = Rows::from(&before.directory);
-            same_chain(&rows, &call, &answer, &other.steps, coverage).map_err(place)?;
-        }
+        let rows = Rows::from(&before.directory);
+        coverage.call(&call, &answer, &rows);
+        same_row(&rows, &call, &answer).map_err(place)?;
+        same_chain(&rows, &call, &answer, &other.steps, coverage).map_err(place)?;
         if answer == Answer::Refused(Refusal::NotSound.number()) {
             let flaw = Register::replay(&before.directory).err();
             let (table, refusal) = flaw.ok_or_else(|| place("refused 4 over a sound directory".into()))?;
@@ -141,7 +141,8 @@ fn list_of_calls(
         let call = Call::Command(command);
         lend_steps(&mut random, &mut store, subject, &call).map_err(place)?;
         let answer = answer_in_every_form(subject, &mut store, &call).map_err(place)?;
-        coverage.call(&call, &answer, &balances.rows.csds);
+        coverage.call(&call, &answer, &balances.rows);
+        same_row(&balances.rows, &call, &answer).map_err(place)?;
         same_chain(&balances.rows, &call, &answer, &store.steps, coverage).map_err(place)?;
         balances.after(&call, &answer, &store).map_err(place)?;
         print(&mut text, number, &answer, &store.steps)?;
@@ -195,6 +196,19 @@ fn answer_in_every_form(subject: &mut impl Implementation, store: &mut Store, ca
         }
     }
     Ok(answer)
+}
+
+/// A pair row is answered as the literal reading of it has it.
+fn same_row(rows: &Rows, call: &Call, answer: &Answer) -> Result<(), String> {
+    let Call::Command(Command::EnterPair(new)) = call else { return Ok(()) };
+    let due = match pairing::due(rows, new) {
+        (0, _) => Answer::Accepted,
+        (number, _) => Answer::Refused(number),
+    };
+    if *answer == due || *answer == Answer::Refused(Refusal::NotSound.number()) {
+        return Ok(());
+    }
+    Err(format!("{answer:?}, where {due:?} is due"))
 }
 
 /// The steps of a chain are those of the literal reading, which also tells its kind.
@@ -276,8 +290,8 @@ fn same_text(expected: &[u8], printed: &[u8]) -> Result<(), String> {
 fn difference(one: &Store, other: &Store) -> Option<&'static str> {
     let parts = [
         ("directory", one.directory == other.directory),
-        ("list of positions", one.positions == other.positions),
-        ("list of cash", one.cash == other.cash),
+        ("list of positions", same(&one.positions, &other.positions)),
+        ("list of cash", same(&one.cash, &other.cash)),
         ("list of steps", one.steps == other.steps),
     ];
     parts.iter().find(|(_, same)| !same).map(|&(part, _)| part)

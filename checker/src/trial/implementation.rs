@@ -37,6 +37,13 @@ pub fn copy(from: &Store, to: &mut Store) {
     to.steps.clone_from(&from.steps);
 }
 
+/// Whether two lists are the same, many numbers at a time.
+pub fn same<Number: PartialEq>(one: &[Number], other: &[Number]) -> bool {
+    let same_piece =
+        |(one, other): (&[Number], &[Number])| one.iter().zip(other).fold(true, |same, (a, b)| same & (a == b));
+    one.len() == other.len() && one.chunks(64).zip(other.chunks(64)).all(same_piece)
+}
+
 /// A call of the desk: what a stream can command, and the totals that the program prints.
 #[derive(Clone, Copy, PartialEq, Eq, Debug)]
 pub enum Call {

@@ -77,21 +77,97 @@ enum End {
     TooLong,
 }
 
+/// What a step asks for: the row of "the account at its other side", in a climb that started from a participant.
+#[derive(Clone, Copy, PartialEq, Eq, Debug)]
+pub struct Asked {
+    pub investor: u8,
+    pub technical: u8,
+    pub served: u16,
+    pub participant: u16,
+}
+
+impl Asked {
+    /// The row of an account from which a climb starts.
+    pub fn first(investor: u8, technical: u8, served: u16) -> Asked {
+        Asked { investor, technical, served, participant: served }
+    }
+}
+
+/// A side climbed from its own account upwards: the rows, and what was asked for in vain.
+#[derive(Clone, Debug)]
+pub struct Climb {
+    pub rows: Vec<Pair>,
+    pub missing: Option<Asked>,
+}
+
+/// How a row is looked up.
+pub type LookUp = fn(&Rows, &Asked) -> Option<Pair>;
+
+/// Both sides of a chain, each from its participant's CSD. Where they meet at one CSD, both name it last; where they
+/// go outside, both name the external CSD last.
+pub struct Route {
+    pub kind: ChainKind,
+    pub up: Vec<u8>,
+    pub down: Vec<u8>,
+}
+
+/// What a side does in one CSD's books: the account towards the participant, and the one beyond, a mirror, inter-CSD or
+/// issuance account.
+struct HalfStep {
+    csd: u8,
+    near: u16,
+    far: u16,
+}
+
 impl Rows {
     /// The kind and the steps of the chain between two participant accounts, or the refusal number.
     pub fn chain(&self, security: u8, delivering: u16, receiving: u16) -> Result<(ChainKind, Vec<Step>), u8> {
-        let d = self.accounts[usize::from(delivering)].csd;
-        let r = self.accounts[usize::from(receiving)].csd;
-        let (kind, up, down) = self.route(security, d, r)?;
-        let steps = self.steps(security, delivering, receiving, &up, &down).ok_or(18)?;
-        Ok((kind, steps))
+        self.chain_by(Rows::row, security, delivering, receiving)
     }
 
-    /// The delivering side from D and the receiving side from R. Where they meet at one CSD, both name
-    /// it last; where they go outside, both name the external CSD last.
-    fn route(&self, security: u8, d: u8, r: u8) -> Result<(ChainKind, Vec<u8>, Vec<u8>), u8> {
+    /// The same with rows looked up in any way.
+    pub fn chain_by(
+        &self,
+        row: LookUp,
+        security: u8,
+        delivering: u16,
+        receiving: u16,
+    ) -> Result<(ChainKind, Vec<Step>), u8> {
+        let route = self.route(security, delivering, receiving)?;
+        let climbs = [self.climb(row, delivering, &route.up), self.climb(row, receiving, &route.down)];
+        if climbs.iter().any(|climb| climb.missing.is_some()) {
+            return Err(18);
+        }
+        Ok((route.kind, self.steps(security, [delivering, receiving], &route, &climbs)))
+    }
+
+    /// "Refusal 18 means no row for the triplet."
+    pub fn row(&self, asked: &Asked) -> Option<Pair> {
+        let Asked { investor, technical, served, .. } = *asked;
+        let mut rows = self.pairs.iter();
+        rows.find(|row| row.investor == investor && row.technical == technical && row.served == served).copied()
+    }
+
+    /// At each CSD of a side the row of the account just reached: the participant, then the omnibus of the row before.
+    pub fn climb(&self, row: LookUp, participant: u16, side: &[u8]) -> Climb {
+        let mut rows: Vec<Pair> = Vec::new();
+        for hop in side.windows(2) {
+            let served = rows.last().map_or(participant, |row| row.technical_account);
+            let asked = Asked { investor: hop[0], technical: hop[1], served, participant };
+            match row(self, &asked) {
+                Some(row) => rows.push(row),
+                None => return Climb { rows, missing: Some(asked) },
+            }
+        }
+        Climb { rows, missing: None }
+    }
+
+    /// The route between two participant accounts, pair rows unread, or the refusal number.
+    pub fn route(&self, security: u8, delivering: u16, receiving: u16) -> Result<Route, u8> {
+        let [d, r] = [delivering, receiving].map(|account| self.accounts[usize::from(account)].csd);
+        let route = |kind, up, down| Ok(Route { kind, up, down });
         if d == r {
-            return Ok((ChainKind::OneCsd, vec![d], vec![r]));
+            return route(ChainKind::OneCsd, vec![d], vec![r]);
         }
         let (from_d, d_end) = self.default_walk(security, d, 8);
         let (from_r, r_end) = self.default_walk(security, r, 8);
@@ -99,21 +175,21 @@ impl Rows {
         let shared = from_d.iter().copied().find(|&csd| !self.is_external(csd) && from_r.contains(&csd));
         if let (true, true, Some(shared)) = (arrives(d_end), arrives(r_end), shared) {
             let kind = if d_end == End::Inside { ChainKind::SharedInside } else { ChainKind::SharedOutside };
-            return Ok((kind, through(&from_d, shared), through(&from_r, shared)));
+            return route(kind, through(&from_d, shared), through(&from_r, shared));
         }
         if let Some(walk) = self.directed_walk(security, d, r, 8) {
-            return Ok((ChainKind::DirectedFromDelivering, walk, vec![r]));
+            return route(ChainKind::DirectedFromDelivering, walk, vec![r]);
         }
         if let Some(walk) = self.directed_walk(security, r, d, 8) {
-            return Ok((ChainKind::DirectedFromReceiving, vec![d], walk));
+            return route(ChainKind::DirectedFromReceiving, vec![d], walk);
         }
         match (d_end, r_end) {
             (End::NoLink, _) | (_, End::NoLink) => Err(14),
             (End::TooLong, _) | (_, End::TooLong) => Err(15),
             (End::Inside, End::Outside) => Err(16),
             (End::Outside, End::Inside) => Err(17),
-            (End::Inside, End::Inside) => Ok((ChainKind::TwoIssuers, from_d, from_r)),
-            (End::Outside, End::Outside) => Ok((ChainKind::BothOutside, from_d, from_r)),
+            (End::Inside, End::Inside) => route(ChainKind::TwoIssuers, from_d, from_r),
+            (End::Outside, End::Outside) => route(ChainKind::BothOutside, from_d, from_r),
         }
     }
 
@@ -122,16 +198,16 @@ impl Rows {
         if self.is_external(csd) {
             return (vec![csd], End::Outside);
         }
-        if self.link(security, csd, |link| link.kind == ISSUER).is_some() {
+        if self.is_issuer(security, csd) {
             return (vec![csd], End::Inside);
         }
-        let Some(link) = self.link(security, csd, |link| link.flag == DEFAULT) else {
+        let Some(technical) = self.default_technical(security, csd) else {
             return (vec![csd], End::NoLink);
         };
         if still_allowed == 1 {
             return (vec![csd], End::TooLong);
         }
-        let (rest, end) = self.default_walk(security, link.technical, still_allowed - 1);
+        let (rest, end) = self.default_walk(security, technical, still_allowed - 1);
         ([vec![csd], rest].concat(), end)
     }
 
@@ -142,43 +218,39 @@ impl Rows {
         if self.link(security, csd, |link| link.kind == INVESTOR && link.technical == target).is_some() {
             return Some(vec![csd, target]);
         }
-        let link = self.link(security, csd, |link| link.kind == INVESTOR && link.flag == DEFAULT)?;
-        let rest = self.directed_walk(security, link.technical, target, still_allowed - 1)?;
+        let technical = self.default_technical(security, csd)?;
+        let rest = self.directed_walk(security, technical, target, still_allowed - 1)?;
         Some([vec![csd], rest].concat())
     }
 
-    fn steps(&self, security: u8, delivering: u16, receiving: u16, up: &[u8], down: &[u8]) -> Option<Vec<Step>> {
-        let (mut steps, near, far) = self.half_steps(security, delivering, up)?;
-        let (mut back, other_near, other_far) = self.half_steps(security, receiving, down)?;
-        let (top, other_top) = (last_in_t2s(self, up), last_in_t2s(self, down));
-        if top == other_top {
-            steps.push((top, near, other_near));
-        } else {
-            steps.push((top, near, far?));
-            back.push((other_top, other_near, other_far?));
+    fn steps(&self, security: u8, [delivering, receiving]: [u16; 2], route: &Route, climbs: &[Climb; 2]) -> Vec<Step> {
+        let mut there = self.half_steps(security, delivering, &route.up, &climbs[0]);
+        let mut back = self.half_steps(security, receiving, &route.down, &climbs[1]);
+        if let (Some(top), Some(other)) = (there.last_mut(), back.last()) {
+            if top.csd == other.csd {
+                top.far = other.near;
+                back.pop();
+            }
         }
-        let there = steps.into_iter().map(|(csd, near, far)| Step { csd, debit: near, credit: far });
-        let back = back.into_iter().rev().map(|(csd, near, far)| Step { csd, debit: far, credit: near });
-        Some(there.chain(back).collect())
+        let there = there.into_iter().map(|HalfStep { csd, near, far }| Step { csd, debit: near, credit: far });
+        let back = back.into_iter().rev().map(|HalfStep { csd, near, far }| Step { csd, debit: far, credit: near });
+        there.chain(back).collect()
     }
 
-    /// For each CSD that a side leaves for one in T2S, the account towards the participant and the one
-    /// towards the technical issuer; then the two accounts where the side ends in T2S, the second one
-    /// being the inter-CSD or issuance account, if any.
-    #[allow(clippy::type_complexity)]
-    fn half_steps(&self, security: u8, account: u16, side: &[u8]) -> Option<(Vec<(u8, u16, u16)>, u16, Option<u16>)> {
+    /// A half step for each CSD in T2S of a side. The last one may have nothing beyond.
+    fn half_steps(&self, security: u8, participant: u16, side: &[u8], climb: &Climb) -> Vec<HalfStep> {
+        let mut near = participant;
         let mut steps = Vec::new();
-        let mut near = account;
-        for hop in side.windows(2) {
-            let pair = self.pairs.iter().find(|pair| pair.investor == hop[0] && pair.technical == hop[1])?;
-            if self.is_external(hop[1]) {
-                return Some((steps, near, Some(pair.investor_account)));
-            }
-            steps.push((hop[0], near, pair.investor_account));
-            near = pair.technical_account;
+        for (&csd, row) in side.iter().zip(&climb.rows) {
+            steps.push(HalfStep { csd, near, far: row.investor_account });
+            near = row.technical_account;
         }
-        let issuer = self.link(security, side[side.len() - 1], |link| link.kind == ISSUER);
-        Some((steps, near, issuer.map(|link| link.account)))
+        let top = side[side.len() - 1];
+        if !self.is_external(top) {
+            let issuer = self.link(security, top, |link| link.kind == ISSUER);
+            steps.push(HalfStep { csd: top, near, far: issuer.map_or(NO_ACCOUNT, |link| link.account) });
+        }
+        steps
     }
 
     /// The account that bring in debits for a participant account.
@@ -187,9 +259,18 @@ impl Rows {
         if let Some(link) = self.link(security, csd, |link| link.kind == ISSUER) {
             return Some(link.account);
         }
-        let link = self.link(security, csd, |link| link.flag == DEFAULT && self.is_external(link.technical))?;
-        let pair = self.pairs.iter().find(|pair| pair.investor == csd && pair.technical == link.technical)?;
-        Some(pair.investor_account)
+        let technical = self.default_technical(security, csd).filter(|&technical| self.is_external(technical))?;
+        self.row(&Asked::first(csd, technical, account)).map(|row| row.investor_account)
+    }
+
+    pub fn is_issuer(&self, security: u8, csd: u8) -> bool {
+        self.link(security, csd, |link| link.kind == ISSUER).is_some()
+    }
+
+    /// The technical issuer of a CSD's default link.
+    pub fn default_technical(&self, security: u8, csd: u8) -> Option<u8> {
+        let link = self.link(security, csd, |link| link.kind == INVESTOR && link.flag == DEFAULT);
+        link.map(|link| link.technical)
     }
 
     pub fn is_external(&self, csd: u8) -> bool {
@@ -205,8 +286,4 @@ impl Rows {
 fn through(walk: &[u8], csd: u8) -> Vec<u8> {
     let before = walk.iter().take_while(|&&other| other != csd);
     before.copied().chain([csd]).collect()
-}
-
-fn last_in_t2s(rows: &Rows, side: &[u8]) -> u8 {
-    *side.iter().rev().find(|&&csd| !rows.is_external(csd)).expect("a side starts in T2S")
 }

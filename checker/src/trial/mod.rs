@@ -4,14 +4,17 @@
 pub mod balances;
 pub mod busy;
 pub mod calls;
+pub mod climbs;
 pub mod commands;
 pub mod coverage;
 pub mod differential;
 pub mod forms;
 pub mod implementation;
 pub mod literal;
+pub mod pairing;
 pub mod random;
 pub mod refused;
 pub mod scenario;
+pub mod segregated;
 pub mod streams;
 pub mod vectors;

@@ -1,8 +1,6 @@
 //! Vectors of refusals: every number that a stream can give to each command, in every way that the documents
 //! word it.
 
-use std::ops::RangeInclusive;
-
 use super::coverage::{command_name, COMMANDS};
 use super::forms::{Form, NO_SIDES, SAME_SIDES};
 use super::scenario::{bic, halves, isin_of, Scenario};
@@ -48,9 +46,9 @@ impl Refused {
         }
     }
 
-    fn pairs(&mut self, rows: &[(u8, u8, u16, u16)]) {
-        for &(investor, technical, investor_account, technical_account) in rows {
-            self.send(Command::EnterPair(Pair { investor, technical, investor_account, technical_account }));
+    fn pairs(&mut self, rows: &[(u8, u8, u16, u16, u16)]) {
+        for &(investor, technical, investor_account, technical_account, served) in rows {
+            self.send(Command::EnterPair(Pair { investor, technical, investor_account, technical_account, served }));
         }
     }
 
@@ -61,8 +59,8 @@ impl Refused {
     }
 
     /// The bytes, once every refusal that a stream can give to these commands was given; 2 ends a stream.
-    fn bytes(self, codes: RangeInclusive<usize>) -> Vec<u8> {
-        for &(name, refusals, _) in &COMMANDS[codes.start() - 1..*codes.end()] {
+    fn bytes(self, codes: &[u8]) -> Vec<u8> {
+        for &(_, name, refusals, _) in COMMANDS.iter().filter(|row| codes.contains(&row.0)) {
             for &number in refusals.iter().filter(|&&number| number != 2) {
                 assert!(self.seen.contains(&(name, number)), "{name}: no {number} in the vector");
             }
@@ -86,34 +84,39 @@ pub fn entries() -> Vec<u8> {
     pairs(&mut refused);
     links(&mut refused);
     full_tables(&mut refused);
-    refused.bytes(0x01..=0x05)
+    refused.bytes(&[0x01, 0x02, 0x03, 0x05, 0x0E])
 }
 
 fn pairs(refused: &mut Refused) {
+    let (a, b) = (own(A, PARTICIPANT), own(B, PARTICIPANT));
     refused.pairs(&[
-        (3, B, own(A, MIRROR), own(B, OMNIBUS)),
-        (A, NO_CSD, own(A, MIRROR), NO_ACCOUNT),
-        (A, B, NO_ACCOUNT, own(B, OMNIBUS)),
-        (A, B, own(A, MIRROR), NO_ACCOUNT),
-        (A, X, own(A, INTER_CSD), 999),
-        (A, B, own(A, MIRROR), own(A, MIRROR)),
-        (A, B, own(A, PARTICIPANT), own(B, OMNIBUS)),
-        (A, B, own(A, MIRROR), own(A, OMNIBUS)),
-        (B, A, own(A, MIRROR), own(B, OMNIBUS)),
-        (X, A, own(A, MIRROR), own(A, OMNIBUS)),
-        (A, X, own(A, MIRROR), NO_ACCOUNT),
-        (A, X, own(A, PARTICIPANT), own(B, OMNIBUS)),
-        (A, X, own(A, INTER_CSD), own(A, INTER_CSD)),
-        (A, X, own(A, INTER_CSD), own(B, OMNIBUS)),
-        (A, A, own(A, MIRROR), own(A, OMNIBUS)),
+        (3, B, own(A, MIRROR), own(B, OMNIBUS), a),
+        (A, NO_CSD, own(A, MIRROR), NO_ACCOUNT, a),
+        (A, B, NO_ACCOUNT, own(B, OMNIBUS), a),
+        (A, B, own(A, MIRROR), NO_ACCOUNT, a),
+        (A, X, own(A, INTER_CSD), 999, a),
+        (A, B, own(A, MIRROR), own(B, OMNIBUS), 999),
+        (A, B, own(A, MIRROR), own(B, OMNIBUS), NO_ACCOUNT),
+        (A, B, own(A, MIRROR), own(A, MIRROR), a),
+        (A, B, own(A, PARTICIPANT), own(B, OMNIBUS), a),
+        (A, B, own(A, MIRROR), own(A, OMNIBUS), a),
+        (A, B, own(A, MIRROR), own(B, OMNIBUS), b),
+        (A, B, own(A, MIRROR), own(B, OMNIBUS), own(A, MIRROR)),
+        (B, A, own(A, MIRROR), own(B, OMNIBUS), b),
+        (X, A, own(A, MIRROR), own(A, OMNIBUS), a),
+        (A, X, own(A, MIRROR), NO_ACCOUNT, a),
+        (A, X, own(A, PARTICIPANT), own(B, OMNIBUS), a),
+        (A, X, own(A, INTER_CSD), own(A, INTER_CSD), a),
+        (A, X, own(A, INTER_CSD), own(B, OMNIBUS), a),
+        (A, A, own(A, MIRROR), own(A, OMNIBUS), a),
         // Accepted, then entered already.
-        (A, B, own(A, MIRROR), own(B, OMNIBUS)),
-        (A, B, own(A, PARTICIPANT), own(B, PARTICIPANT)),
-        (B, A, own(B, MIRROR), own(B, OMNIBUS)),
-        (A, X, own(A, MIRROR), NO_ACCOUNT),
-        (A, X, own(A, INTER_CSD), own(B, OMNIBUS)),
+        (A, B, own(A, MIRROR), own(B, OMNIBUS), a),
+        (A, B, own(A, PARTICIPANT), own(B, PARTICIPANT), a),
+        (B, A, own(B, MIRROR), own(B, OMNIBUS), b),
+        (A, X, own(A, MIRROR), NO_ACCOUNT, a),
+        (A, X, own(A, INTER_CSD), own(B, OMNIBUS), a),
         // The other way round is another pair.
-        (B, A, own(B, MIRROR), own(A, OMNIBUS)),
+        (B, A, own(B, MIRROR), own(A, OMNIBUS), b),
     ]);
 }
 
@@ -159,8 +162,14 @@ fn full_tables(refused: &mut Refused) {
     while !scenario.directory().securities.is_full() {
         scenario.security();
     }
-    for pair in scenario.directory().pairs.count as u8..PAIRS as u8 {
-        scenario.pair(3 + pair % 8, 12 + pair / 8);
+    let participants: Vec<u16> =
+        (3..11).flat_map(|csd| [csd; 8]).map(|csd| scenario.account(csd, PARTICIPANT)).collect();
+    for technical in 12..20 {
+        for &participant in &participants {
+            if !scenario.directory().pairs.is_full() {
+                scenario.serve(participant, technical, 0);
+            }
+        }
     }
     for link in scenario.directory().links.count as u8..LINKS as u8 {
         let csd = 3 + link / 15;
@@ -172,7 +181,7 @@ fn full_tables(refused: &mut Refused) {
     refused.send(Command::EnterCsd(Csd { kind: 7, bic: [0; 11] }));
     refused.send(Command::EnterSecurity(Security { isin: isin_of(0) }));
     refused.send(Command::EnterAccount(Account { csd: NO_CSD, kind: 9 }));
-    refused.pairs(&[(NO_CSD, NO_CSD, NO_ACCOUNT, NO_ACCOUNT)]);
+    refused.pairs(&[(NO_CSD, NO_CSD, NO_ACCOUNT, NO_ACCOUNT, NO_ACCOUNT)]);
     refused.links(&[(NO_CSD, 9, NO_CSD, NO_CSD, 9, NO_ACCOUNT)]);
 }
 
@@ -209,21 +218,21 @@ pub fn instructions() -> Vec<u8> {
     refused.send(Command::PayIn { account: participant, amount: Cents(BOUND) });
     refused.send(Command::PayIn { account: participant, amount: Cents(1) });
     refused.send(Command::PayOut { account: participant, amount: Cents(BOUND) });
-    refused.bytes(0x06..=0x09)
+    refused.bytes(&[0x06, 0x07, 0x08, 0x09])
 }
 
 /// A holds outside, and over alternatives with two issuers: what it takes out adds up on its inter-CSD account.
 fn inter_csd_to_the_bound(refused: &mut Refused) {
     let scenario = &mut refused.scenario;
     let other = scenario.csd(IN_T2S);
+    let participant = own(A, PARTICIPANT);
     scenario.link(0, A, X, DEFAULT);
-    scenario.pair(A, X);
+    scenario.serve(participant, X, 0);
     for issuer in [B, other] {
         scenario.issuer(0, issuer);
         scenario.link(0, A, issuer, ALTERNATIVE);
-        scenario.pair(A, issuer);
+        scenario.serve(participant, issuer, 0);
     }
-    let participant = own(A, PARTICIPANT);
     refused.send(Command::TakeOut { account: participant, security: 0, quantity: Units(1) });
     for issuer in [B, other] {
         let account = refused.scenario.participant(issuer);
@@ -237,7 +246,7 @@ fn inter_csd_to_the_bound(refused: &mut Refused) {
 /// Settle and derive: the two halves, the chain, and the booking.
 pub fn settlements() -> Vec<u8> {
     let (refused, _) = settlements_in(&[Form::ByPlace]);
-    refused.bytes(0x0A..=0x0B)
+    refused.bytes(&[0x0A, 0x0B])
 }
 
 /// The same with sides and either half first, then all wrong sides beside right and wrong halves.
@@ -250,7 +259,7 @@ pub fn sided_settlements() -> Vec<u8> {
             refused.send(Command::DeriveSided { first, second });
         }
     }
-    refused.bytes(0x0C..=0x0D)
+    refused.bytes(&[0x0C, 0x0D])
 }
 
 /// Halves that are refused, each pair settled and derived in every form, and the pairs tried with a right one last.
@@ -265,12 +274,12 @@ fn settlements_in(forms: &[Form]) -> (Refused, Vec<(Half, Half)>) {
     for (csd, technical) in [(A, B), (behind_issuer, issuer), (cycle, other), (other, cycle)] {
         scenario.link(0, csd, technical, DEFAULT);
     }
-    scenario.pair(A, B);
     let outside = scenario.csd(IN_T2S);
     scenario.link(0, outside, X, DEFAULT);
-    scenario.pair(outside, X);
     let [a, b] = [A, B].map(|csd| own(csd, PARTICIPANT));
+    scenario.serve(a, B, 0);
     let [i, behind, u, c, o] = [issuer, behind_issuer, unlinked, cycle, outside].map(|csd| scenario.participant(csd));
+    scenario.serve(o, X, 0);
 
     let chains = [(a, a), (u, a), (a, u), (c, a), (a, c), (c, u), (b, o), (o, b), (behind, i), (i, behind)];
     let directory = scenario.directory();

@@ -62,19 +62,75 @@ impl Scenario {
         self.directory().csds.get(usize::from(csd)).is_some_and(|row| row.kind == EXTERNAL)
     }
 
-    /// Opens the accounts of an investor CSD and a technical issuer and enters their pair, unless it is
-    /// there.
-    pub fn pair(&mut self, investor: u8, technical: u8) {
+    /// The CSD of an account.
+    pub fn csd_of(&self, account: u16) -> u8 {
+        self.directory().accounts.get(usize::from(account)).map_or(NO_CSD, |row| row.csd)
+    }
+
+    /// All participant accounts of a CSD.
+    pub fn participants(&self, csd: u8) -> Vec<u16> {
+        let rows = self.directory().accounts.entered().unwrap_or_default();
+        let own = Account { csd, kind: PARTICIPANT };
+        rows.iter().enumerate().filter(|(_, row)| **row == own).map(|(number, _)| number as u16).collect()
+    }
+
+    /// The accounts of an investor CSD and a technical issuer, in order of entry.
+    fn duos(&self, investor: u8, technical: u8) -> Vec<(u16, u16)> {
         let rows = self.directory().pairs.entered().unwrap_or_default();
-        if rows.iter().any(|row| row.investor == investor && row.technical == technical) {
-            return;
+        let mut duos = Vec::new();
+        for row in rows.iter().filter(|row| row.investor == investor && row.technical == technical) {
+            let duo = (row.investor_account, row.technical_account);
+            if !duos.contains(&duo) {
+                duos.push(duo);
+            }
         }
-        let (investor_account, technical_account) = if self.is_external(technical) {
-            (self.account(investor, INTER_CSD), NO_ACCOUNT)
-        } else {
-            (self.account(investor, MIRROR), self.account(technical, OMNIBUS))
+        duos
+    }
+
+    /// Enters the row of a served account at a technical issuer, unless it is there: over the accounts of this place
+    /// among those of the two CSDs, or over new ones where there are fewer. Gives the omnibus account reached, if any.
+    pub fn serve(&mut self, served: u16, technical: u8, duo: usize) -> Option<u16> {
+        let investor = self.csd_of(served);
+        let rows = self.directory().pairs.entered().unwrap_or_default();
+        let omnibus = |account: u16| Some(account).filter(|&account| account != NO_ACCOUNT);
+        if let Some(row) = rows.iter().find(|row| row.technical == technical && row.served == served) {
+            return omnibus(row.technical_account);
+        }
+        let (investor_account, technical_account) = match self.duos(investor, technical).get(duo) {
+            Some(&duo) => duo,
+            None if self.is_external(technical) => (self.account(investor, INTER_CSD), NO_ACCOUNT),
+            None => (self.account(investor, MIRROR), self.account(technical, OMNIBUS)),
         };
-        let _ = self.send(Command::EnterPair(Pair { investor, technical, investor_account, technical_account }));
+        let row = Pair { investor, technical, investor_account, technical_account, served };
+        self.send(Command::EnterPair(row)).ok()?;
+        omnibus(technical_account)
+    }
+
+    /// Enters the rows of an account and of each omnibus that it reaches, along a path from its CSD.
+    pub fn climb(&mut self, account: u16, path: &[u8], duo: usize) {
+        let mut beyond = path.iter().skip(1);
+        beyond.try_fold(account, |served, &technical| self.serve(served, technical, duo));
+    }
+
+    /// Enters the rows of accounts, and of each omnibus that they reach, along all hops from CSD to technical issuer.
+    /// For each row the place of its accounts is asked, or that it be left out.
+    pub fn serve_along(
+        &mut self,
+        accounts: &[u16],
+        hops: &[(u8, u8)],
+        mut duo: impl FnMut(&mut Scenario) -> Option<usize>,
+    ) {
+        let mut reached = accounts.to_vec();
+        let mut next = 0;
+        while let Some(&served) = reached.get(next) {
+            next += 1;
+            let csd = self.csd_of(served);
+            for &(_, technical) in hops.iter().filter(|hop| hop.0 == csd) {
+                let Some(duo) = duo(self) else { continue };
+                let omnibus = self.serve(served, technical, duo);
+                reached.extend(omnibus.filter(|omnibus| !reached.contains(omnibus)));
+            }
+        }
     }
 
     /// Enters an issuer link, with an issuance account of its own where the CSD is in T2S.

@@ -1,6 +1,8 @@
 //! Random streams aimed at depth: long walks, cycles, two issuers, external ends, alternatives, full
 //! tables, numbers at the bound, and damaged bytes. A seed gives the same stream everywhere.
 
+use std::collections::BTreeSet;
+
 use super::commands;
 use super::coverage::LENGTHS;
 use super::forms::FORMS;
@@ -22,6 +24,10 @@ pub fn stream(seed: u64) -> Vec<u8> {
             commands::command(&mut random, directory).write(&mut bytes);
             bytes.truncate(bytes.len() - random.between(1, 2));
         }
+        3 => {
+            let former = commands::former_pair(&mut random, session.register().directory());
+            bytes.extend(former);
+        }
         _ => {}
     }
     bytes.truncate(INPUT_LIMIT);
@@ -30,27 +36,35 @@ pub fn stream(seed: u64) -> Vec<u8> {
 
 /// An undamaged stream, with the store that it leaves.
 pub fn scenario(random: &mut Random) -> Scenario {
-    let shape = random.below(20);
+    let shape = random.below(60);
     let noise = random.pick(&[0, 0, 2, 10]);
     let mut writer = Writer { random, scenario: Scenario::default(), noise };
     match shape {
-        0..=3 => {
+        0..=12 => {
             let plan = Plan::any(writer.random);
             writer.two_sides(plan)
         }
-        4..=8 => {
+        13..=28 => {
             let plan = Plan::exact(writer.random);
             writer.two_sides(plan)
         }
-        9..=12 => {
+        29..=40 => {
             let (csds, securities) = (writer.random.between(3, 16), writer.random.between(1, 5));
             writer.web(csds, securities)
         }
-        13 => writer.full_tables(),
-        14..=16 => writer.around_the_bound(),
+        41 => writer.full_tables(),
+        42..=50 => writer.around_the_bound(),
         _ => writer.commands_at_random(),
     }
     writer.scenario
+}
+
+/// Opens some accounts that no row names yet.
+pub fn open_accounts(random: &mut Random, scenario: &mut Scenario) {
+    for _ in 0..random.pick(&[0, 6, 12]) {
+        let row = commands::account(random, scenario.directory());
+        scenario.account(row.csd, row.kind);
+    }
 }
 
 /// Flips, drops, adds or repeats bytes, or cuts the stream.
@@ -109,9 +123,9 @@ impl Plan {
         Plan { delivering, receiving, ends, alternatives: (0..count).map(alternative).collect() }
     }
 
-    /// Sides that give a chain of a kind and length, each as likely as another.
+    /// Sides that give a chain of a kind and length, each as likely as another, but those to the outside likelier.
     fn exact(random: &mut Random) -> Plan {
-        let (kind, lengths) = LENGTHS[random.between(1, LENGTHS.len() - 1)].clone();
+        let (kind, lengths) = LENGTHS[random.between(1, LENGTHS.len() + 1).min(LENGTHS.len() - 1)].clone();
         let length = random.between(*lengths.start(), *lengths.end());
         match kind {
             ChainKind::SharedInside | ChainKind::SharedOutside => {
@@ -207,7 +221,8 @@ impl Writer<'_> {
         external
     }
 
-    /// Enters links, then their pairs; in some streams a few pairs are left out.
+    /// Enters links, then the pair rows of participants and of all omnibus accounts that these reach. In some streams a
+    /// few rows are left out, and CSDs have several participants and several accounts at a technical issuer.
     fn enter(&mut self, security: u8, issuers: &[u8], defaults: &[(u8, u8)], alternatives: &[(u8, u8)]) {
         for &issuer in issuers {
             self.disturb();
@@ -219,21 +234,54 @@ impl Writer<'_> {
                 self.scenario.link(security, investor, technical, flag);
             }
         }
-        let left_out = self.random.pick(&[0, 0, 0, 10]);
-        let mut pairs = [defaults, alternatives].concat();
-        self.random.shuffle(&mut pairs);
-        for (investor, technical) in pairs {
-            self.disturb();
-            if !self.random.percent(left_out) {
-                self.scenario.pair(investor, technical);
+        let mut hops = [defaults, alternatives].concat();
+        hops.retain(|hop| hop.0 != hop.1);
+        self.random.shuffle(&mut hops);
+        let accounts = self.served_accounts(&hops);
+        if self.random.percent(15) {
+            self.leave_out(&mut hops);
+        }
+        let (left_out, duos) = (self.random.pick(&[0, 0, 0, 10]), self.random.pick(&[1, 1, 2, 3]));
+        let Writer { random, scenario, noise } = self;
+        scenario.serve_along(&accounts, &hops, |scenario| {
+            disturb(random, scenario, *noise);
+            let room = scenario.directory().accounts.count < ACCOUNTS - 60;
+            (!random.percent(left_out)).then(|| if room { random.below(duos) } else { 0 })
+        });
+    }
+
+    /// Leaves one hop without any row, often one that leads outside.
+    fn leave_out(&mut self, hops: &mut Vec<(u8, u8)>) {
+        let outside = hops.iter().position(|hop| self.scenario.is_external(hop.1));
+        match outside.filter(|_| self.random.percent(50)) {
+            Some(place) => drop(hops.remove(place)),
+            None => drop(hops.pop()),
+        }
+    }
+
+    /// A participant account of each investor, and in some streams more, most of them to be served.
+    fn served_accounts(&mut self, hops: &[(u8, u8)]) -> Vec<u16> {
+        let more = self.random.pick(&[0, 0, 1, 2]);
+        let investors: BTreeSet<u8> = hops.iter().map(|hop| hop.0).collect();
+        let mut accounts = Vec::new();
+        for csd in investors {
+            accounts.push(self.scenario.participant(csd));
+            for _ in 0..self.random.below(more + 1) {
+                let account = self.scenario.account(csd, PARTICIPANT);
+                if self.random.percent(75) {
+                    accounts.push(account);
+                }
             }
         }
+        self.random.shuffle(&mut accounts);
+        accounts
     }
 
     /// Brings securities and cash in where that is possible, spreads them to the two ends, and settles and
     /// derives between these and others.
     fn trade(&mut self, securities: &[u8], csds: &[u8], ends: [u8; 2]) {
-        let accounts: Vec<u16> = csds.iter().map(|&csd| self.scenario.participant(csd)).collect();
+        let firsts: Vec<u16> = csds.iter().map(|&csd| self.scenario.participant(csd)).collect();
+        let accounts: Vec<u16> = csds.iter().flat_map(|&csd| self.scenario.participants(csd)).collect();
         let ends = ends.map(|csd| self.scenario.participant(csd));
         for account in ends {
             let amount = self.random.some_number();
@@ -242,7 +290,8 @@ impl Writer<'_> {
         let rows = Rows::from(self.scenario.directory());
         for &security in securities {
             for &account in &accounts {
-                if rows.source(security, account).is_some() || self.random.percent(3) {
+                let chance = if firsts.contains(&account) { 100 } else { 30 };
+                if rows.source(security, account).is_some() && self.random.percent(chance) || self.random.percent(3) {
                     self.bring_in_for(account, security, &ends);
                 }
             }
@@ -319,18 +368,14 @@ impl Writer<'_> {
 
     /// Every table filled, and one more row tried in each.
     fn full_tables(&mut self) {
-        self.web(29, 5);
+        self.web(10, 5);
         for _ in self.scenario.directory().csds.count..=CSDS {
             self.scenario.csd(IN_T2S);
         }
         for _ in self.scenario.directory().securities.count..=SECURITIES {
             self.scenario.security();
         }
-        for investor in 0..8 {
-            for technical in 0..9 {
-                self.scenario.pair(24 + investor, technical + 15);
-            }
-        }
+        self.fill_pairs();
         for security in 5..16 {
             for csd in 0..12 {
                 self.scenario.link(security, 31 - csd, 30 - csd, DEFAULT);
@@ -344,6 +389,22 @@ impl Writer<'_> {
             self.disturb();
             let command = commands::command(self.random, self.scenario.directory());
             let _ = self.scenario.send(command);
+        }
+    }
+
+    /// Pair rows of a few CSDs with many participants, which hold with all others.
+    fn fill_pairs(&mut self) {
+        let investors = [28, 29, 30];
+        let accounts: Vec<u16> =
+            investors.iter().flat_map(|&csd| [csd; 12]).map(|csd| self.scenario.account(csd, PARTICIPANT)).collect();
+        for technical in 0..28 {
+            for &account in &accounts {
+                if self.scenario.directory().pairs.is_full() {
+                    self.scenario.serve(account, 31, 0);
+                    return;
+                }
+                self.scenario.serve(account, technical, 0);
+            }
         }
     }
 
@@ -386,6 +447,7 @@ impl Writer<'_> {
             self.noise = 0;
             let csds = self.random.between(3, 6);
             self.web(csds, 2);
+            open_accounts(self.random, &mut self.scenario);
         }
         for _ in 0..self.random.between(1, 120) {
             let command = commands::command(self.random, self.scenario.directory());
@@ -393,12 +455,16 @@ impl Writer<'_> {
         }
     }
 
-    /// Sometimes a command at random between the others.
     fn disturb(&mut self) {
-        if self.random.percent(self.noise) {
-            let command = commands::command(self.random, self.scenario.directory());
-            let _ = self.scenario.send(command);
-        }
+        disturb(self.random, &mut self.scenario, self.noise);
+    }
+}
+
+/// Sometimes a command at random between the others.
+fn disturb(random: &mut Random, scenario: &mut Scenario, noise: usize) {
+    if random.percent(noise) {
+        let command = commands::command(random, scenario.directory());
+        let _ = scenario.send(command);
     }
 }
 

@@ -1,10 +1,12 @@
 //! Inputs that are worth keeping: every refusal of every command, chains of every kind and length, sided halves
-//! in either order, branches, the ends of the input's length, damaged streams, and large sums. The model's transcripts are their outputs.
+//! in either order, branches, segregated holdings, the ends of the input's length, damaged streams, and large sums. The
+//! model's transcripts are their outputs.
 
 use super::busy;
 use super::forms::{Form, FORMS};
 use super::refused;
 use super::scenario::{halves, Scenario};
+use super::segregated;
 use crate::booking::BOUND;
 use crate::command::Command;
 use crate::directory::*;
@@ -29,6 +31,11 @@ pub fn vectors() -> Vec<(&'static str, Vec<u8>)> {
         ("sided-cut-by-one", cut_or_unknown(&[0x0C; 42])),
         ("sided-cut-before-second-half", cut_or_unknown(&[0x0D; 22])),
         ("branches", branches()),
+        ("segregated-chains", segregated::chains()),
+        ("segregated-refusals", segregated::refusals()),
+        ("served-omnibus", segregated::served_omnibus()),
+        ("pair-cut-by-one", cut_or_unknown(&[0x0E; 8])),
+        ("pair-by-04", cut_or_unknown(&[0x04, 0, 0, 0, 0, 0, 0])),
         ("large-sums", large_sums()),
         ("empty", Vec::new()),
         ("unknown-byte", cut_or_unknown(&[0x00])),
@@ -54,12 +61,13 @@ fn chains(forms: &[Form], lengths: [usize; 2], tops: [Top; 2], alternative: Opti
     let mut scenario = Scenario::default();
     let security = scenario.security();
     let sides = lengths.map(|length| (0..length).map(|_| scenario.csd(IN_T2S)).collect::<Vec<u8>>());
-    enter_sides(&mut scenario, security, &sides, tops);
+    let mut hops = enter_sides(&mut scenario, security, &sides, tops);
     if let Some((from, to)) = alternative {
         scenario.link(security, sides[0][from], sides[1][to], ALTERNATIVE);
-        scenario.pair(sides[0][from], sides[1][to]);
+        hops.push((sides[0][from], sides[1][to]));
     }
     let accounts = sides.map(|side| side.iter().map(|&csd| scenario.participant(csd)).collect::<Vec<u16>>());
+    scenario.serve_along(&accounts.concat(), &hops, |_| Some(0));
     for (side, top) in accounts.iter().zip(tops) {
         let source = if top == Top::Joined { accounts[0][lengths[0] - 1] } else { side[side.len() - 1] };
         scenario.bring_in(source, security, 1_000_000).ok();
@@ -79,8 +87,9 @@ fn chains(forms: &[Form], lengths: [usize; 2], tops: [Top; 2], alternative: Opti
     scenario.bytes
 }
 
-/// Links and pairs along two sides and to their ends.
-fn enter_sides(scenario: &mut Scenario, security: u8, sides: &[Vec<u8>; 2], tops: [Top; 2]) {
+/// Links along two sides and to their ends, and the hops of these.
+fn enter_sides(scenario: &mut Scenario, security: u8, sides: &[Vec<u8>; 2], tops: [Top; 2]) -> Vec<(u8, u8)> {
+    let mut hops = Vec::new();
     for (side, top) in sides.iter().zip(tops) {
         let mut path = side.clone();
         match top {
@@ -90,9 +99,10 @@ fn enter_sides(scenario: &mut Scenario, security: u8, sides: &[Vec<u8>; 2], tops
         }
         for hop in path.windows(2) {
             scenario.link(security, hop[0], hop[1], DEFAULT);
-            scenario.pair(hop[0], hop[1]);
+            hops.push((hop[0], hop[1]));
         }
     }
+    hops
 }
 
 fn trade(scenario: &mut Scenario, forms: &[Form], security: u8, trades: &[(u16, u16)]) {
@@ -108,8 +118,8 @@ fn trade(scenario: &mut Scenario, forms: &[Form], security: u8, trades: &[(u16, 
     }
 }
 
-/// CSDs whose BICs differ in the last three bytes, or in one byte alone, three capitals X among them. All are entered; each
-/// is then 9, in T2S and outside, and two of them settle.
+/// CSDs whose BICs differ in the last three bytes, or in one byte alone, three capitals X among them. All are entered;
+/// each is then 9, in T2S and outside, and two of them settle.
 fn branches() -> Vec<u8> {
     let bics = [
         b"AAAAXX00XXX",
@@ -130,8 +140,8 @@ fn branches() -> Vec<u8> {
     let security = scenario.security();
     scenario.issuer(security, 0);
     scenario.link(security, 1, 0, DEFAULT);
-    scenario.pair(1, 0);
     let (from, to) = (scenario.participant(0), scenario.participant(1));
+    scenario.serve(to, 0, 0);
     scenario.bring_in(from, security, 100).ok();
     scenario.settle(from, to, security, 40, 0).ok();
     scenario.bytes

@@ -21,15 +21,15 @@ unfolding contraFound
 contra-missing none e = refl
 contra-missing (some b) e = impossible (cc)
 
-module _ (k : Lookups) (s c : ℕ) where
-  pub contra-issued : leadingOf (k .issuer s c) (k .onward s c) ≡ Issuer → contra k s c ≡ some (k .issuing s c)
+module _ (k : Lookups) (s c a : ℕ) where
+  pub contra-issued : leadingOf (k .issuer s c) (k .onward s c) ≡ Issuer → contra k s c a ≡ some (k .issuing s c)
   unfolding contra
   contra-issued e = rw (issuer-told (k .issuer s c) (k .onward s c) e)
 
-  pub contra-led : (t : ℕ) → leadingOf (k .issuer s c) (k .onward s c) ≡ To t → contra k s c ≡ interCsd k c (some t)
+  pub contra-led : (t : ℕ) → leadingOf (k .issuer s c) (k .onward s c) ≡ To t → contra k s c a ≡ interCsd k c a (some t)
   unfolding contra
   contra-led t e = let r = default-told (k .issuer s c) (k .onward s c) t e in rw (r .0, r .1)
 
-  pub contra-lacking : leadingOf (k .issuer s c) (k .onward s c) ≡ Nowhere → contra k s c ≡ none
+  pub contra-lacking : leadingOf (k .issuer s c) (k .onward s c) ≡ Nowhere → contra k s c a ≡ none
   unfolding contra
   contra-lacking e = let r = nothing-told (k .issuer s c) (k .onward s c) e in rw (r .0, r .1)

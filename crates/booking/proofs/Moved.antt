@@ -64,12 +64,12 @@ module _ (k : Lookups) (p : List ℤ) (w : Way) (a s q : ℕ) where
     then-later = first-after (operandConditions k a s q) (later (moveChain k w a s)) (quiet (operandConditions k a s q) refl (sym is ∙ ok))
 
     module _ (c : ℕ) (home : c ≡ k .home a) where
-      pub by-contra : contra k s c ≡ none → Moves (Refused 19) p
+      pub by-contra : contra k s c a ≡ none → Moves (Refused 19) p
       unfolding moveChain
       by-contra e = refused-with 19 (sym (then-later ∙ rw (← home, e))) (λ z. omega arith)
 
       -- the step is judged, and the positions left are told by its number
-      module _ (other : ℕ) (found : contra k s c ≡ some other) (x : Step) (step : x ≡ moveStep w c a other)
+      module _ (other : ℕ) (found : contra k s c a ≡ some other) (x : Step) (step : x ≡ moveStep w c a other)
           (m : ℕ) (number : m ≡ firstOf (stepConditions (k .kind) p s q x)) (p′ : List ℤ) (left : p′ ≡ cond (eqb m 0) (moved x s q p) p) where
         only : moveChain k w a s ≡ chained (x ∷ [])
         unfolding moveChain

@@ -34,12 +34,12 @@ pub enum Contra {
     Missing,
 }
 
-// "the inter-CSD account of its default link to an external CSD", which is the technical issuer
-fn inter_csd(index: &[u16; INDEX], csd: u8, technical: u8) -> Contra
-    ensures { λ r. ⌜ r ≡ contraFound (interCsd (asked (now (index .entry))) csd (some technical)) ⌝ }
+// "the inter-CSD account of its default link to an external CSD", which is the technical issuer, by "the participant's row"
+fn inter_csd(index: &[u16; INDEX], csd: u8, account: u16, technical: u8) -> Contra
+    ensures { λ r. ⌜ r ≡ contraFound (interCsd (asked (now (index .entry))) csd account (some technical)) ⌝ }
 {
     if is_external(index, technical) {
-        return match pair_of(index, csd, technical) {
+        return match pair_of(index, csd, technical, account) {
             PairFound::Row(pair) => Contra::At(pair.mirror),
             PairFound::Missing => Contra::Missing,
         };
@@ -48,12 +48,12 @@ fn inter_csd(index: &[u16; INDEX], csd: u8, technical: u8) -> Contra
 }
 
 // "in its CSD, the issuance account of its issuer link, else the inter-CSD account"
-fn contra_of(index: &[u16; INDEX], security: u8, csd: u8) -> Contra
-    ensures { λ r. ⌜ r ≡ contraFound (contra (asked (now (index .entry))) security csd) ⌝ }
+fn contra_of(index: &[u16; INDEX], security: u8, csd: u8, account: u16) -> Contra
+    ensures { λ r. ⌜ r ≡ contraFound (contra (asked (now (index .entry))) security csd account) ⌝ }
 {
     match leading_at(index, security, csd) {
         Leading::Issuer => Contra::At(issuance_of(index, security, csd)),
-        Leading::To(technical) => inter_csd(index, csd, technical),
+        Leading::To(technical) => inter_csd(index, csd, account, technical),
         Leading::Nowhere => Contra::Missing,
     }
 }
@@ -126,7 +126,7 @@ pub fn move_securities(
         return Answer::Refused(refusal);
     }
     let csd = home_of(index, account);
-    let Contra::At(other) = contra_of(index, security, csd) else {
+    let Contra::At(other) = contra_of(index, security, csd, account) else {
         return Answer::Refused(19);
     };
     let step = move_step(incoming, csd, account, other);

@@ -35,6 +35,7 @@ const BLANK_PAIR: Pair = Pair {
     technical: 0,
     mirror: 0,
     omnibus: 0,
+    served: 0,
 };
 
 const BLANK_LINK: Link = Link {

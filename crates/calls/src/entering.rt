@@ -162,7 +162,7 @@ pub fn enter_account(directory: Directory, row: Account) -> Entered
     entry_accepted(with_account(directory, row))
 }
 
-// 04: a pair.
+// 0E: a pair.
 pub fn enter_pair(directory: Directory, row: Pair) -> Entered
     ensures { λ r. ⌜ r ≡ enteredOn directory (pairRow row) ⌝ }
 {

@@ -53,13 +53,13 @@ module _ (K : Lookups) (l : List ℕ) (n a : ℕ) where
       abbrev upper : ℕ
       upper = getD l (i + 1) 0
 
-      two-ahead : climb K (drop i (take n l)) b ≡ over lower b (K .pair lower upper) (λ o. climb K (drop (i + 1) (take n l)) o)
+      two-ahead : climb K (drop i (take n l)) b ≡ over lower b (K .pair lower upper b) (λ o. climb K (drop (i + 1) (take n l)) o)
       unfolding climb
       two-ahead = rw (ahead l n i 0 (omega arith) (omega arith), ahead l n (i + 1) 0 g h)
 
-      pub climb-fails : K .pair lower upper ≡ none → unpaired ≡ climb K (take n l) a
+      pub climb-fails : K .pair lower upper b ≡ none → unpaired ≡ climb K (take n l) a
       climb-fails e = sym (inv ∙ rw (two-ahead, e))
 
-      pub climb-goes-on : (p : Pair) (ys : List Step) → K .pair lower upper ≡ some p → ys ≡ xs ++ (step lower b (p .mirror) ∷ []) → Climbs (i + 1) ys (p .omnibus)
+      pub climb-goes-on : (p : Pair) (ys : List Step) → K .pair lower upper b ≡ some p → ys ≡ xs ++ (step lower b (p .mirror) ∷ []) → Climbs (i + 1) ys (p .omnibus)
       climb-goes-on p ys e z =
           inv ∙ rw (two-ahead, e, z) (behind-step xs (step lower b (p .mirror)) (climb K (drop (i + 1) (take n l)) (p .omnibus)))

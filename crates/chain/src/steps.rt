@@ -61,7 +61,7 @@ fn climb_side(
             };
         }
         let csd = csds[i];
-        let PairFound::Row(pair) = pair_of(index, csd, csds[i + 1]) else {
+        let PairFound::Row(pair) = pair_of(index, csd, csds[i + 1], at) else {
             return Reached {
                 paired: false,
                 count: i,

@@ -19,6 +19,7 @@ use rules::Answer;
 use rules::Directory;
 use rules::NO_ACCOUNT;
 use rules::NO_CSD;
+use rules::OMNIBUS;
 use rules::POSITIONS;
 use rules::SECURITIES;
 use rules::STEPS;
@@ -102,15 +103,30 @@ fn start() -> Directory {
     after(desk::enter_security(y, Security { isin }))
 }
 
-// The pair of two CSDs, with new accounts, numbered by the count of those entered.
+// A row for each participant and omnibus account of the investor CSD that is entered: all of them share the two accounts.
+fn serving(directory: Directory, csd: u8, technical: u8, mirror: u16, omnibus: u16) -> Directory {
+    let accounts = directory.accounts;
+    let mut served = directory;
+    let mut i: usize = 0;
+    while i < ACCOUNTS {
+        let account = accounts.rows[i];
+        if (i < accounts.count) & ((account.csd == csd) & (account.kind <= OMNIBUS)) {
+            served = with_pair(served, pair(csd, technical, mirror, omnibus, i as u16));
+        }
+        i += 1;
+    }
+    served
+}
+
+// The rows of two CSDs, with new accounts, numbered by the count of those entered.
 fn paired(directory: Directory, csd: u8, technical: u8) -> Directory {
     let new = (directory.accounts.count % ACCOUNTS) as u16;
     if csd_of(b'X') <= technical {
         let inter = with_account(directory, csd, 3);
-        return with_pair(inter, pair(csd, technical, new, NO_ACCOUNT));
+        return serving(inter, csd, technical, new, NO_ACCOUNT);
     }
     let both = with_account(with_account(directory, csd, 2), technical, 1);
-    with_pair(both, pair(csd, technical, new, new + 1))
+    serving(both, csd, technical, new, new + 1)
 }
 
 fn drawn_link(directory: Directory, from: u8, sign: u8, to: u8) -> Directory {
@@ -186,7 +202,7 @@ fn worked() -> Directory {
     let three = told(desk::enter_account(two, Account { csd: 1, kind: 1 }));
     let four = told(desk::enter_account(three, Account { csd: 1, kind: 4 }));
     let five = told(desk::enter_account(four, Account { csd: 1, kind: 0 }));
-    let paired = told(desk::enter_pair(five, pair(0, 1, 1, 2)));
+    let paired = told(desk::enter_pair(five, pair(0, 1, 1, 2, 0)));
     let issued = told(desk::enter_link(paired, link(0, 1, NO_CSD, 1, 3)));
     told(desk::enter_link(issued, link(1, 0, 1, 1, NO_ACCOUNT)))
 }

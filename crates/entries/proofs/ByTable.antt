@@ -4,7 +4,7 @@ use mathlib.Core.Path.{_≡_}
 use mathlib.Core.Logic.{_≢_}
 use mathlib.Core.List.{List}
 use Rattle.rules.specs.Directory.{Rows}
-use Rattle.index.specs.Index.{Place, csdCount, securityCount, accountCount, pairCount, linkCount, typeAt, homeAt, kindAt, pairedAt, mirrorAt, omnibusAt, routeAt, issuanceAt, linkAt, Inside, indexOf}
+use Rattle.index.specs.Index.{Place, csdCount, securityCount, accountCount, pairCount, linkCount, typeAt, homeAt, kindAt, mirrorAt, omnibusAt, investorAt, technicalAt, servedAt, routeAt, issuanceAt, linkAt, Inside, indexOf}
 use Rattle.entries.proofs.Stored.{Store, Apart}
 
 -- of the places that tell of CSDs
@@ -21,9 +21,11 @@ pub record OfAccounts (P : Place → Type 0) : Type 0 where
 -- of pairs
 pub record OfPairs (P : Place → Type 0) : Type 0 where
   pub count : P pairCount
-  pub paired : (a : ℕ) → P (pairedAt a)
-  pub mirror : (i t : ℕ) → P (mirrorAt i t)
-  pub omnibus : (i t : ℕ) → P (omnibusAt i t)
+  pub mirror : (a : ℕ) → P (mirrorAt a)
+  pub omnibus : (a : ℕ) → P (omnibusAt a)
+  pub investor : (a : ℕ) → P (investorAt a)
+  pub technical : (a : ℕ) → P (technicalAt a)
+  pub served : (t a : ℕ) → P (servedAt t a)
 
 -- of links
 pub record OfLinks (P : Place → Type 0) : Type 0 where
@@ -42,9 +44,11 @@ every-place P c s a p l linkCount = l .count
 every-place P c s a p l (typeAt n) = c .type n
 every-place P c s a p l (homeAt n) = a .home n
 every-place P c s a p l (kindAt n) = a .kind n
-every-place P c s a p l (pairedAt n) = p .paired n
-every-place P c s a p l (mirrorAt i t) = p .mirror i t
-every-place P c s a p l (omnibusAt i t) = p .omnibus i t
+every-place P c s a p l (mirrorAt n) = p .mirror n
+every-place P c s a p l (omnibusAt n) = p .omnibus n
+every-place P c s a p l (investorAt n) = p .investor n
+every-place P c s a p l (technicalAt n) = p .technical n
+every-place P c s a p l (servedAt t n) = p .served t n
 every-place P c s a p l (routeAt n m) = l .route n m
 every-place P c s a p l (issuanceAt n m) = l .issuance n m
 every-place P c s a p l (linkAt n m t) = l .link n m t
@@ -65,7 +69,15 @@ module _ (r r′ : Rows) (count : Place) (ss : List Store) where
   same-accounts e = record { count = λ i o a. rw e; home = λ n i o a. rw e; kind = λ n i o a. rw e }
 
   pub same-pairs : r .pairs ≡ r′ .pairs → OfPairs (Same r r′ count ss)
-  same-pairs e = record { count = λ i o a. rw e; paired = λ n i o a. rw e; mirror = λ c t i o a. rw e; omnibus = λ c t i o a. rw e }
+  same-pairs e =
+      record {
+        count = λ i o a. rw e;
+        mirror = λ n i o a. rw e;
+        omnibus = λ n i o a. rw e;
+        investor = λ n i o a. rw e;
+        technical = λ n i o a. rw e;
+        served = λ t n i o a. rw e;
+      }
 
   pub same-links : r .links ≡ r′ .links → OfLinks (Same r r′ count ss)
   same-links e = record { count = λ i o a. rw e; route = λ s c i o a. rw e; issuance = λ s c i o a. rw e; link = λ s c t i o a. rw e }

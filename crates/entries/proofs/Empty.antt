@@ -1,28 +1,46 @@
 -- What is kept of the empty directory: a 0 everywhere.
 use Prim.Native.Nat.{ℕ, zero, suc, _+_, _*_}
-use mathlib.Core.Path.{_≡_, refl, sym, _∙_}
-use mathlib.Core.Bool.{not, and-false}
+use mathlib.Core.Path.{_≡_, refl, sym, ap, _∙_}
+use mathlib.Core.Bool.{Bool, true, false, cond}
+use mathlib.Core.List.{[]}
+use mathlib.Core.Option.{Option, none}
 use lib.Dec.{eqb}
 use lib.ListN.{getD, replicate, length-replicate}
-use Rattle.rules.specs.Directory.{noAccount, isPaired, pairOf, hasIssuer, defaultLink, hasLinkTo}
+use Rattle.rules.specs.Directory.{noAccount, hasIssuer, defaultLink, hasLinkTo}
 use Rattle.rules.specs.Entries.{emptyDirectory}
 use Rattle.rules.specs.Demands.{noRows}
 use Rattle.rules.proofs.Tables.{empty-sized, empty-rows, empty-sound}
-use Rattle.index.specs.Index.{Place, indexOf, placeOf, indexSize, Indexed}
+use Rattle.rules.specs.declared.Pair.{Pair}
+use Rattle.index.specs.Index.{Place, indexOf, placeOf, indexSize, Indexed, duoOf, servedRow, mirrorCode, omnibusCode, investorCode, technicalCode}
 use Rattle.entries.specs.Names.{Named, bicSize, isinSize, isins, namesSize}
 use Rattle.entries.specs.Entered.{Keeps}
 use Rattle.entries.proofs.ByTable.{every-place}
 use Rattle.entries.proofs.Growing.{whole}
 
 -- the index of no rows
+no-duo : (a : ℕ) → duoOf [] a ≡ none
+unfolding duoOf
+no-duo a = go (eqb a noAccount)
+  where
+    go : (b : Bool) → cond {A = Option Pair} b none none ≡ none
+    go true = refl
+    go false = refl
+
 nothing : (p : Place) → indexOf noRows p ≡ 0
-unfolding isPaired pairOf hasIssuer defaultLink hasLinkTo
+unfolding servedRow hasIssuer defaultLink hasLinkTo
 nothing =
     every-place (λ p. indexOf noRows p ≡ 0)
     (record { count = refl; type = λ c. refl })
     refl
     (record { count = refl; home = λ a. refl; kind = λ a. refl })
-    (record { count = refl; paired = λ a. rw (and-false (not (eqb a noAccount))); mirror = λ i t. refl; omnibus = λ i t. refl })
+    (record {
+      count = refl;
+      mirror = λ a. ap mirrorCode (no-duo a);
+      omnibus = λ a. ap omnibusCode (no-duo a);
+      investor = λ a. ap investorCode (no-duo a);
+      technical = λ a. ap technicalCode (no-duo a);
+      served = λ t a. refl;
+    })
     (record { count = refl; route = λ s c. refl; issuance = λ s c. refl; link = λ s c t. refl })
 
 zeros : (n k : ℕ) → _≡_ {A = ℕ} (getD (replicate n 0) k 0) 0

@@ -1,13 +1,13 @@
 -- A table with one row more behind: the row by its number, and the searches.
 use mathlib.Core.Path.{_≡_, refl, ap}
 use mathlib.Core.Logic.{_≢_}
-use mathlib.Core.Bool.{Bool, true, false}
+use mathlib.Core.Bool.{Bool, true, false, cond}
 use mathlib.Core.List.{List, [], _∷_, _++_}
 use mathlib.Core.Option.{some}
 use Prim.Native.Nat.{ℕ, zero, suc, _+_}
 use lib.ListN.{length, getElem?, length-append}
 use Rattle.rules.specs.Tests.{any, find}
-use Rattle.rules.proofs.Basics.{or-right, or-none}
+use Rattle.rules.proofs.Basics.{impossible, or-right, or-none}
 
 -- ---- by number
 module _ {A : Type 0} where
@@ -37,6 +37,14 @@ module _ {A : Type 0} (t : A → Bool) (x : A) where
   pub find-kept : (xs : List A) → t x ≡ false → find t (xs ++ (x ∷ [])) ≡ find t xs
   find-kept [] e = rw e
   find-kept (y ∷ xs) e = rw (find-kept xs e)
+
+  pub find-old : (xs : List A) (y : A) → find t xs ≡ some y → find t (xs ++ (x ∷ [])) ≡ some y
+  find-old [] y e = impossible (cc)
+  find-old (z ∷ xs) y e = go (t z) e (λ f. find-old xs y f)
+    where
+      go : (b : Bool) → cond b (some z) (find t xs) ≡ some y → (find t xs ≡ some y → find t (xs ++ (x ∷ [])) ≡ some y) → cond b (some z) (find t (xs ++ (x ∷ []))) ≡ some y
+      go true f below = f
+      go false f below = below f
 
   pub find-new : (xs : List A) → any t xs ≡ false → t x ≡ true → find t (xs ++ (x ∷ [])) ≡ some x
   find-new [] n e = rw e

@@ -17,7 +17,7 @@ use Rattle.rules.specs.declared.Entered.{Entered}
 use Rattle.rules.specs.Tests.{firstOf}
 use Rattle.rules.specs.Directory.{rowsOf, csdLimit, securityLimit, noAccount}
 use Rattle.rules.specs.Entries.{Row, csdRow, securityRow, accountRow, pairRow, linkRow, csdConditions, securityConditions, accountConditions, pairConditions, linkConditions, rowConditions, addRow}
-use Rattle.index.specs.Index.{Indexed, Place, csdCount, securityCount, accountCount, pairCount, linkCount, placeOf, types, homes, kinds, paired, mirrors, omnibuses, routes, issuances, linked, issuerCode, numberAt, withNumber}
+use Rattle.index.specs.Index.{Indexed, Place, csdCount, securityCount, accountCount, pairCount, linkCount, placeOf, types, homes, kinds, mirrors, omnibuses, investors, technicals, served, routes, issuances, linked, issuerCode, numberAt, withNumber}
 use Rattle.index.specs.Asked.{read, asked}
 use Rattle.entries.specs.Names.{bicSize, isinSize, isins, bicIn, isinIn, withBytes, Named}
 
@@ -93,16 +93,16 @@ withAccount x l =
     let n = numberAt l (placeOf accountCount) in
     counted accountCount (withNumber (withNumber l (homes + n) (x .csd + 1)) (kinds + n) (x .kind + 1))
 
--- an account is in a pair; hex FFFF never is
-unfoldable pub withPaired : ℕ → List ℕ → List ℕ
-withPaired a l = cond (eqb a noAccount) l (withNumber l (paired + a) 1)
+-- an account is in the duo of x; hex FFFF never is in one
+unfoldable pub withDuo : Pair → ℕ → List ℕ → List ℕ
+withDuo x a l =
+    cond (eqb a noAccount) l
+    (withNumber (withNumber (withNumber (withNumber l (mirrors + a) (oneMore (x .mirror))) (omnibuses + a) (x .omnibus)) (investors + a) (x .investor)) (technicals + a) (x .technical))
 
--- a pair: its accounts, by investor and technical issuer, each in a pair now
+-- a pair: its first account, by technical issuer and account served, and the duo of its accounts
 unfoldable pub withPair : Pair → List ℕ → List ℕ
 withPair x l =
-    let at = x .investor * csdLimit + x .technical in
-    counted pairCount
-    (withPaired (x .omnibus) (withPaired (x .mirror) (withNumber (withNumber l (mirrors + at) (oneMore (x .mirror))) (omnibuses + at) (x .omnibus))))
+    counted pairCount (withDuo x (x .omnibus) (withDuo x (x .mirror) (withNumber l (served + (x .served * csdLimit + x .technical)) (oneMore (x .mirror)))))
 
 -- an issuer link's numbers, at the place of its security and CSD
 unfoldable pub withIssuer : ℕ → Link → List ℕ → List ℕ

@@ -11,6 +11,7 @@ use index::places::ACCOUNT_COUNT;
 use index::places::CSD_COUNT;
 use index::places::HOMES;
 use index::places::INDEX;
+use index::places::INVESTORS;
 use index::places::ISSUANCES;
 use index::places::ISSUER;
 use index::places::KINDS;
@@ -19,9 +20,10 @@ use index::places::LINKED;
 use index::places::MIRRORS;
 use index::places::OMNIBUSES;
 use index::places::PAIR_COUNT;
-use index::places::PAIRED;
 use index::places::ROUTES;
 use index::places::SECURITY_COUNT;
+use index::places::SERVED;
+use index::places::TECHNICALS;
 use index::places::TYPES;
 use index::places::entry;
 use index::places::store;
@@ -40,7 +42,7 @@ ghost use Prim.Native.Nat.{_<_};
 ghost use Rattle.index.specs.Index.{csdCount, securityCount, placeOf, numberAt, withNumber};
 ghost use Rattle.entries.specs.Entered.{accountRefusalIn, pairRefusalIn, linkRefusalIn};
 ghost use Rattle.entries.specs.Entered.{oneMore, withCsd, withBic, withSecurity, withIsin, withAccount};
-ghost use Rattle.entries.specs.Entered.{withPaired, withPair, withIssuer, withInvestor, withLink};
+ghost use Rattle.entries.specs.Entered.{withDuo, withPair, withIssuer, withInvestor, withLink};
 ghost use Rattle.entries.specs.Entered.{answered, left, EntersCsd, EntersSecurity};
 
 // One more; a table's count and a pair's account are below the largest u16, which stays as it is.
@@ -94,25 +96,28 @@ pub fn add_account(index: &mut [u16; INDEX], row: Account)
     count_on(index, ACCOUNT_COUNT);
 }
 
-// The account is in a pair; hex FFFF never is.
-fn pair_account(index: &mut [u16; INDEX], account: u16)
-    ensures { λ _. ⌜ now (index .exit) ≡ withPaired account (now (index .entry)) ⌝ }
+// The account is in the duo of the row; hex FFFF never is in one.
+fn add_duo(index: &mut [u16; INDEX], row: Pair, account: u16)
+    ensures { λ _. ⌜ now (index .exit) ≡ withDuo row account (now (index .entry)) ⌝ }
 {
     if account == NO_ACCOUNT {
         return;
     }
-    store(index, PAIRED + (account as usize), 1);
+    let a = account as usize;
+    store(index, MIRRORS + a, one_more(row.mirror));
+    store(index, OMNIBUSES + a, row.omnibus);
+    store(index, INVESTORS + a, row.investor as u16);
+    store(index, TECHNICALS + a, row.technical as u16);
 }
 
 // A pair's numbers.
 pub fn add_pair(index: &mut [u16; INDEX], row: Pair)
     ensures { λ _. ⌜ now (index .exit) ≡ withPair row (now (index .entry)) ⌝ }
 {
-    let place = (row.investor as usize) * CSDS + (row.technical as usize);
-    store(index, MIRRORS + place, one_more(row.mirror));
-    store(index, OMNIBUSES + place, row.omnibus);
-    pair_account(index, row.mirror);
-    pair_account(index, row.omnibus);
+    let place = (row.served as usize) * CSDS + (row.technical as usize);
+    store(index, SERVED + place, one_more(row.mirror));
+    add_duo(index, row, row.mirror);
+    add_duo(index, row, row.omnibus);
     count_on(index, PAIR_COUNT);
 }
 
@@ -186,7 +191,7 @@ pub fn enter_account(index: &mut [u16; INDEX], row: Account) -> Answer
     Answer::Accepted
 }
 
-// Command 04.
+// Command 0E.
 pub fn enter_pair(index: &mut [u16; INDEX], row: Pair) -> Answer
     ensures answer { λ r. ⌜ r ≡ answered (pairRefusalIn (now (index .entry)) row) ⌝ }
     ensures left { λ r. ⌜ now (index .exit) ≡ left (pairRefusalIn (now (index .entry)) row) (now (index .entry)) (withPair row (now (index .entry))) ⌝ }

@@ -12,11 +12,11 @@ use index::lookups::has_link;
 use index::lookups::has_link_to;
 use index::lookups::is_account;
 use index::lookups::is_account_of;
+use index::lookups::is_apart;
 use index::lookups::is_csd;
 use index::lookups::is_external;
-use index::lookups::is_joined;
-use index::lookups::is_paired;
 use index::lookups::is_security;
+use index::lookups::is_served;
 use index::lookups::links_full;
 use index::lookups::pairs_full;
 use index::places::CSD_COUNT;
@@ -33,13 +33,15 @@ use rules::MIRROR;
 use rules::NO_ACCOUNT;
 use rules::NO_CSD;
 use rules::OMNIBUS;
+use rules::PARTICIPANT;
 use rules::Pair;
 use rules::SECURITIES;
 use rules::Security;
 ghost use mathlib.Core.Path.{_≡_};
 ghost use mathlib.Core.Bool.{cond};
 ghost use lib.Dec.{eqb};
-ghost use Rattle.rules.specs.Entries.{secondUnknown, wrongAccounts, pairUnknown, technicalUnknown, accountUnknown, linkUnknown};
+ghost use Rattle.rules.specs.Entries.{secondUnknown, wrongAccounts, wrongServed, pairUnknown, sharing, pairEntered};
+ghost use Rattle.rules.specs.Entries.{technicalUnknown, accountUnknown, linkUnknown};
 ghost use Rattle.rules.specs.Entries.{technicalEntered, wrongIssuance, issuerBroken, flagBroken, alternativeOutside, investorBroken};
 ghost use Rattle.index.specs.Asked.{asked};
 ghost use Rattle.entries.specs.Entered.{csdRefusalIn, securityRefusalIn, accountRefusalIn, pairRefusalIn, linkRefusalIn};
@@ -126,10 +128,46 @@ fn pair_unknown(index: &[u16; INDEX], row: Pair) -> bool
     let investor = !is_csd(index, row.investor);
     let technical = !is_csd(index, row.technical);
     let mirror = !is_account(index, row.mirror);
-    investor | (technical | (mirror | second_unknown(index, row)))
+    let served = !is_account(index, row.served);
+    investor | (technical | (mirror | (second_unknown(index, row) | served)))
 }
 
-// 04: of rows (6), neither the two CSDs nor an account paired before (9), with their accounts (10), two CSDs and FFFF where it is due (11).
+// The account served is not "a participant or omnibus account of the investor CSD".
+fn wrong_served(index: &[u16; INDEX], row: Pair) -> bool
+    ensures { λ r. ⌜ r ≡ wrongServed (asked (now (index .entry))) row ⌝ }
+{
+    let participant = is_account_of(index, row.served, row.investor, PARTICIPANT);
+    let omnibus = is_account_of(index, row.served, row.investor, OMNIBUS);
+    !(participant | omnibus)
+}
+
+// A row that may share the first account: "both accounts", "with an external issuer the inter-CSD account alone".
+fn sharing_row(index: &[u16; INDEX], row: Pair) -> Pair
+    ensures { λ r. ⌜ r ≡ sharing (asked (now (index .entry))) row ⌝ }
+{
+    if is_external(index, row.technical) {
+        return Pair {
+            investor: row.investor,
+            technical: row.technical,
+            mirror: row.mirror,
+            omnibus: NO_ACCOUNT,
+            served: row.served,
+        };
+    }
+    row
+}
+
+// "the same triplet or a sharing not allowed"
+fn pair_entered(index: &[u16; INDEX], row: Pair) -> bool
+    ensures { λ r. ⌜ r ≡ pairEntered (asked (now (index .entry))) row ⌝ }
+{
+    let triplet = is_served(index, row.investor, row.technical, row.served);
+    let first = is_apart(index, row.mirror, sharing_row(index, row));
+    triplet | (first | is_apart(index, row.omnibus, row))
+}
+
+// 0E: of rows (6), neither the triplet entered nor an account shared otherwise than allowed (9), with their accounts (10), two CSDs and FFFF where it is
+// due (11).
 pub fn pair_refusal(index: &[u16; INDEX], row: Pair) -> u8
     ensures { λ r. ⌜ r ≡ pairRefusalIn (now (index .entry)) row ⌝ }
 {
@@ -139,11 +177,10 @@ pub fn pair_refusal(index: &[u16; INDEX], row: Pair) -> u8
     if pair_unknown(index, row) {
         return 6;
     }
-    let joined = is_joined(index, row.investor, row.technical);
-    if joined | (is_paired(index, row.mirror) | is_paired(index, row.omnibus)) {
+    if pair_entered(index, row) {
         return 9;
     }
-    if wrong_accounts(index, row) {
+    if wrong_accounts(index, row) | wrong_served(index, row) {
         return 10;
     }
     let alone = is_external(index, row.technical) & (row.omnibus != NO_ACCOUNT);

@@ -24,14 +24,15 @@ pub fn csd(external: u8, byte: u8) -> Csd
     Csd { external, bic }
 }
 
-pub fn pair(investor: u8, technical: u8, mirror: u16, omnibus: u16) -> Pair
-    ensures { λ r. ⌜ r ≡ record { investor = investor; technical = technical; mirror = mirror; omnibus = omnibus } ⌝ }
+pub fn pair(investor: u8, technical: u8, mirror: u16, omnibus: u16, served: u16) -> Pair
+    ensures { λ r. ⌜ r ≡ record { investor = investor; technical = technical; mirror = mirror; omnibus = omnibus; served = served } ⌝ }
 {
     Pair {
         investor,
         technical,
         mirror,
         omnibus,
+        served,
     }
 }
 

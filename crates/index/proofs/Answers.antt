@@ -1,7 +1,7 @@
 -- The answers of an index are the answers of its directory: one law for everybody who asks a list.
 use Prim.Native.Nat.{ℕ, _+_, _-_, _<_}
 use mathlib.Core.Path.{_≡_, refl, sym, ap, _∙_}
-use mathlib.Core.Bool.{Bool, true, false, not, _&&_, cond, true≢false}
+use mathlib.Core.Bool.{Bool, true, false, not, _&&_, cond, and-false, true≢false}
 use mathlib.Core.List.{List}
 use mathlib.Core.Option.{Option, none, some}
 use native.Mathlib.Omega.{arith}
@@ -13,17 +13,18 @@ use Rattle.rules.specs.declared.Pair.{Pair}
 use Rattle.rules.specs.declared.Link.{Link}
 use Rattle.rules.specs.declared.Directory.{Directory}
 use Rattle.rules.specs.Tests.{isRow, isFull}
-use Rattle.rules.specs.Directory.{Rows, rowsOf, csdLimit, securityLimit, accountLimit, pairLimit, linkLimit, noAccount, external, isKind, inBooks, joins, pairOf, isJoined, isPaired, hasLink, hasIssuer, hasInvestor, hasLinkTo, defaultLink}
+use Rattle.rules.specs.Directory.{Rows, rowsOf, csdLimit, securityLimit, accountLimit, pairLimit, linkLimit, noAccount, external, isKind, inBooks, serves, sameDuo, pairOf, isServed, isApart, hasLink, hasIssuer, hasInvestor, hasLinkTo, defaultLink}
 use Rattle.rules.specs.Lookups.{ask, technicalOf, csdOf, homeOf, issuance}
 use Rattle.rules.proofs.Basics.{clash, and-true}
 use Rattle.rules.proofs.Pairs.{found-pair}
-use Rattle.index.specs.Index.{Indexed, Place, csdCount, securityCount, accountCount, pairCount, linkCount, typeAt, homeAt, kindAt, pairedAt, mirrorAt, omnibusAt, routeAt, issuanceAt, linkAt, indexOf, typeCode, homeCode, mirrorCode, omnibusCode, defaultCode, issuerCode}
-use Rattle.index.specs.Asked.{IndexAnswers, has, read, homeBy, pairBy, onwardBy, asked}
+use Rattle.index.specs.Index.{Indexed, Place, csdCount, securityCount, accountCount, pairCount, linkCount, typeAt, homeAt, kindAt, mirrorAt, omnibusAt, investorAt, technicalAt, servedAt, routeAt, issuanceAt, linkAt, indexOf, typeCode, homeCode, duoOf, servedRow, mirrorCode, omnibusCode, investorCode, technicalCode, defaultCode, issuerCode}
+use Rattle.index.specs.Asked.{IndexAnswers, has, read, homeBy, booksIn, pairBy, duoIs, onwardBy, asked}
 use Rattle.index.proofs.Laws.{unknown}
 use Rattle.index.proofs.Found.{any-found, any-missing}
 use Rattle.index.proofs.Read.{read-in, read-off, not-both, inside}
 use Rattle.index.proofs.Standing.{number-at}
-use Rattle.index.proofs.LookingUp.{facts, row-coded, type-told, books-told, kind-told, flag-told, home-small, unpaired, unjoined}
+use Rattle.index.proofs.LookingUp.{facts, row-coded, next-tests, type-told, books-told, kind-told, flag-told, home-small}
+use Rattle.index.proofs.PairReading.{found-served, apartBy, apart-by, unpaired, unserved, beside, triplet-row, no-triplet}
 use Rattle.index.proofs.LinkReading.{no-issuance, default-investor, issuer-link, investor-link, technical-small, unlinked, issuer-alone, no-link, no-issuer, no-route, first-is-default}
 
 -- ---- from a code to the answer
@@ -31,17 +32,18 @@ home-by : (o : Option Account) → ((x : Account) → o ≡ some x → x .csd < 
 home-by none small = refl
 home-by (some x) small = rw (ne-eqb (x .csd + 1) 0 (λ e. omega (arith, e)), le-ltb 256 (x .csd + 1) (omega (arith, small x refl))) (omega arith)
 
-pair-by : (ps : List Pair) (i t : ℕ) (o : Option Pair) → pairOf ps i t ≡ o → pairBy i t (mirrorCode o) (omnibusCode o) ≡ o
-pair-by ps i t none q = refl
-pair-by ps i t (some p) q =
-    let b = found-pair ps i t p q in
-    let m : p .mirror + 1 - 1 ≡ p .mirror = omega arith in
-    rw (ne-eqb (p .mirror + 1) 0 (λ e. omega (arith, e)), m, ← (b .1), ← (b .2))
-
-joined-by : (ps : List Pair) (i t : ℕ) (o : Option Pair) → pairOf ps i t ≡ o → not (eqb (mirrorCode o) 0) ≡ isJoined ps i t
-unfolding pairOf isJoined
-joined-by ps i t none q = any-missing (joins i t) ps q
-joined-by ps i t (some p) q = rw (ne-eqb (p .mirror + 1) 0 (λ e. omega (arith, e))) (any-found (joins i t) ps p q)
+-- the codes of a duo compared with those of x
+duo-by : (x p : Pair)
+    → ((eqb (p .mirror + 1) (x .mirror + 1) && eqb (p .omnibus) (x .omnibus)) && (eqb (p .investor) (x .investor) && eqb (p .technical) (x .technical))) ≡ sameDuo x p
+duo-by x p =
+    rw (next-tests (p .mirror) (x .mirror))
+    (turned (eqb (p .mirror) (x .mirror) && eqb (p .omnibus) (x .omnibus)) (eqb (p .investor) (x .investor) && eqb (p .technical) (x .technical)))
+  where
+    turned : (a b : Bool) → (a && b) ≡ (b && a)
+    turned true true = refl
+    turned true false = refl
+    turned false true = refl
+    turned false false = refl
 
 -- What a CSD's links for a security are, by the code that the index has.
 data Route (ls : List Link) (s c : ℕ) : ℕ → Type 0 where
@@ -88,9 +90,11 @@ module _ {l : List ℕ} {d : Directory} (h : Indexed l d) where
   beyond (typeAt c) e = rw (unknown (r .csds) c (omega (arith, facts h .fewCsds, ltb-false c csdLimit e)))
   beyond (homeAt a) e = rw (unknown (r .accounts) a (omega (arith, facts h .fewAccounts, ltb-false a accountLimit e)))
   beyond (kindAt a) e = rw (unknown (r .accounts) a (omega (arith, facts h .fewAccounts, ltb-false a accountLimit e)))
-  beyond (pairedAt a) e = rw (unpaired r (facts h) a (ltb-false a accountLimit e))
-  beyond (mirrorAt i t) e = rw (unjoined r (facts h) i t (not-both i t csdLimit csdLimit e))
-  beyond (omnibusAt i t) e = rw (unjoined r (facts h) i t (not-both i t csdLimit csdLimit e))
+  beyond (mirrorAt a) e = rw (unpaired r (facts h) a (ltb-false a accountLimit e))
+  beyond (omnibusAt a) e = rw (unpaired r (facts h) a (ltb-false a accountLimit e))
+  beyond (investorAt a) e = rw (unpaired r (facts h) a (ltb-false a accountLimit e))
+  beyond (technicalAt a) e = rw (unpaired r (facts h) a (ltb-false a accountLimit e))
+  beyond (servedAt t a) e = rw (unserved r (facts h) t a (not-both t a csdLimit accountLimit e))
   beyond (routeAt s c) e = no-route r s c (facts h) (not-both s c securityLimit csdLimit e)
   beyond (issuanceAt s c) e = rw (no-issuer r s c (facts h) (not-both s c securityLimit csdLimit e))
   beyond (linkAt s c t) e =
@@ -145,14 +149,49 @@ module _ {l : List ℕ} {d : Directory} (h : Indexed l d) where
   is-kind a k = rw (reads (kindAt a)) (kind-told k (getElem? (r .accounts) a))
 
   -- pairs
-  paired-told : (a : ℕ) → not (eqb (read l (pairedAt a)) 0) ≡ isPaired (r .pairs) a
-  paired-told a = rw (reads (pairedAt a)) (flag-told (isPaired (r .pairs) a))
+  apart-told : (a : ℕ) (x : Pair) → (not (eqb (read l (mirrorAt a)) 0) && not (duoIs l a x)) ≡ isApart (r .pairs) a x
+  apart-told a x =
+      rw (reads (mirrorAt a), reads (omnibusAt a), reads (investorAt a), reads (technicalAt a), ← (apart-by r (facts h) a x)) (go (duoOf (r .pairs) a))
+    where
+      go : (o : Option Pair)
+          → (not (eqb (mirrorCode o) 0)
+          && not ((eqb (mirrorCode o) (x .mirror + 1) && eqb (omnibusCode o) (x .omnibus)) && (eqb (investorCode o) (x .investor) && eqb (technicalCode o) (x .technical))))
+          ≡ apartBy x o
+      go none = refl
+      go (some p) = rw (ne-eqb (p .mirror + 1) 0 (λ e. omega (arith, e)), duo-by x p)
 
-  pair-told : (i t : ℕ) → pairBy i t (read l (mirrorAt i t)) (read l (omnibusAt i t)) ≡ pairOf (r .pairs) i t
-  pair-told i t = rw (reads (mirrorAt i t), reads (omnibusAt i t)) (pair-by (r .pairs) i t (pairOf (r .pairs) i t) refl)
+  -- the row with this first account
+  row-told : (t a : ℕ) (o : Option Pair) → servedRow (r .pairs) t a ≡ o → (i : ℕ) → inBooks (r .accounts) a i ≡ true → pairBy l i t a (mirrorCode o) ≡ o
+  row-told t a none e i b = refl
+  row-told t a (some p) e i b =
+      let f = found-served (r .pairs) t a p e in
+      let g = found-pair (r .pairs) i t a p (sym (triplet-row r (facts h) i t a b) ∙ e) in
+      let d = beside r (facts h) p (f .0) in
+      let m : p .mirror + 1 - 1 ≡ p .mirror = omega arith in
+      rw (ne-eqb (p .mirror + 1) 0 (λ q. omega (arith, q)), m, reads (omnibusAt (p .mirror)), d .1, d .2, ← (g .1), ← (g .2), ← (g .3))
 
-  joined-told : (i t : ℕ) → not (eqb (read l (mirrorAt i t)) 0) ≡ isJoined (r .pairs) i t
-  joined-told i t = rw (reads (mirrorAt i t)) (joined-by (r .pairs) i t (pairOf (r .pairs) i t) refl)
+  pair-told : (i t a : ℕ) → cond (booksIn l a i) (pairBy l i t a (read l (servedAt t a))) none ≡ pairOf (r .pairs) i t a
+  pair-told i t a = rw (in-books a i, reads (servedAt t a)) (go (inBooks (r .accounts) a i) refl)
+    where
+      go : (b : Bool) → inBooks (r .accounts) a i ≡ b → cond b (pairBy l i t a (mirrorCode (servedRow (r .pairs) t a))) none ≡ pairOf (r .pairs) i t a
+      go true e = row-told t a (servedRow (r .pairs) t a) refl i e ∙ triplet-row r (facts h) i t a e
+      go false e = sym (no-triplet r (facts h) i t a e)
+
+  served-told : (i t a : ℕ) → (not (eqb (read l (servedAt t a)) 0) && booksIn l a i) ≡ isServed (r .pairs) i t a
+  unfolding pairOf isServed
+  served-told i t a = rw (in-books a i, reads (servedAt t a)) (go (inBooks (r .accounts) a i) refl)
+    where
+      whole : (b : Bool) → (b && true) ≡ b
+      whole true = refl
+      whole false = refl
+
+      some-row : (o : Option Pair) → pairOf (r .pairs) i t a ≡ o → not (eqb (mirrorCode o) 0) ≡ isServed (r .pairs) i t a
+      some-row none q = any-missing (serves i t a) (r .pairs) q
+      some-row (some p) q = rw (ne-eqb (p .mirror + 1) 0 (λ e. omega (arith, e))) (any-found (serves i t a) (r .pairs) p q)
+
+      go : (b : Bool) → inBooks (r .accounts) a i ≡ b → (not (eqb (mirrorCode (servedRow (r .pairs) t a)) 0) && b) ≡ isServed (r .pairs) i t a
+      go true e = whole (not (eqb (mirrorCode (servedRow (r .pairs) t a)) 0)) ∙ rw (triplet-row r (facts h) i t a e) (some-row (pairOf (r .pairs) i t a) refl)
+      go false e = rw and-false (any-missing (serves i t a) (r .pairs) (no-triplet r (facts h) i t a e))
 
   linked-told : (s c t : ℕ) → not (eqb (read l (linkAt s c t)) 0) ≡ hasLinkTo (r .links) s c t
   linked-told s c t = rw (reads (linkAt s c t)) (flag-told (hasLinkTo (r .links) s c t))
@@ -172,9 +211,9 @@ module _ {l : List ℕ} {d : Directory} (h : Indexed l d) where
         home = λ a. home-told a i;
         books = λ a c. in-books a c i;
         kind = λ a k. is-kind a k i;
-        paired = λ a. paired-told a i;
-        pair = λ j t. pair-told j t i;
-        joined = λ j t. joined-told j t i;
+        apart = λ a x. apart-told a x i;
+        pair = λ j t a. pair-told j t a i;
+        served = λ j t a. served-told j t a i;
         anyLink = λ s c. any-by (route s c) i;
         issuer = λ s c. issuer-by (route s c) i;
         investor = λ s c. investor-by (route s c) i;

@@ -4,5 +4,6 @@ pub mod Read
 pub mod Leads
 pub mod Standing
 pub mod LookingUp
+pub mod PairReading
 pub mod LinkReading
 pub mod Answers

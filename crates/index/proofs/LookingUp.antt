@@ -1,9 +1,8 @@
--- What a number of the index tells of CSDs, accounts and pairs, and that a sound directory has none of them beyond the index's places.
-use Prim.Native.Nat.{ℕ, zero, suc, _+_, _≤_, _<_}
-use mathlib.Core.Path.{_≡_, refl, sym, _∙_}
-use mathlib.Core.Logic.{_≢_, inl, inr}
+-- What a number of the index tells of CSDs and accounts, and that a sound directory has none of them beyond the index's places.
+use Prim.Native.Nat.{ℕ, zero, suc, _+_, _<_}
+use mathlib.Core.Path.{_≡_, refl}
 use mathlib.Core.Bool.{Bool, true, false, not}
-use mathlib.Core.List.{List, [], _∷_, List·Memᴰ}
+use mathlib.Core.List.{List, [], _∷_}
 use mathlib.Core.Option.{Option, none, some}
 use native.Mathlib.Omega.{arith}
 use native.Mathlib.Decide.{decLt}
@@ -11,14 +10,11 @@ use lib.Dec.{eqb, ltb}
 use lib.ListN.{length, getElem?}
 use Rattle.rules.specs.declared.Csd.{Csd}
 use Rattle.rules.specs.declared.Account.{Account}
-use Rattle.rules.specs.declared.Pair.{Pair}
 use Rattle.rules.specs.declared.Directory.{Directory}
-use Rattle.rules.specs.Tests.{any, isRow}
-use Rattle.rules.specs.Directory.{Rows, rowsOf, csdLimit, accountLimit, noAccount, typeIs, kindIs, csdIs, inBooks, uses, pairOf, isPaired}
-use Rattle.rules.proofs.Basics.{equal-tests, eqb-is, eqb-true, eqb-false, ltb-is, ltb-true, ltb-false, and-untrue, unnot, untrue, or-cases, none-any, eqb-not}
+use Rattle.rules.specs.Tests.{isRow}
+use Rattle.rules.specs.Directory.{Rows, rowsOf, csdLimit, typeIs, kindIs, csdIs, inBooks}
+use Rattle.rules.proofs.Basics.{equal-tests, eqb-is, eqb-true, eqb-false, ltb-is, ltb-true, ltb-false}
 use Rattle.rules.proofs.Facts.{Facts}
-use Rattle.rules.proofs.Accounts.{books-small}
-use Rattle.rules.proofs.Pairs.{found-pair, pair-cases}
 use Rattle.rules.proofs.Soundness.{sound-gives}
 use Rattle.index.proofs.Laws.{unknown}
 use Rattle.index.specs.Index.{Indexed, typeCode, homeCode, kindCode, flagCode}
@@ -46,7 +42,7 @@ row-coded code z p l i = go (decLt i (length l))
     go (no n) = rw (unknown l i (omega arith), z, ltb-false i (length l) (omega arith))
 
 -- ---- codes
-next-tests : (a b : ℕ) → eqb (a + 1) (b + 1) ≡ eqb a b
+pub next-tests : (a b : ℕ) → eqb (a + 1) (b + 1) ≡ eqb a b
 next-tests a b =
     equal-tests (eqb (a + 1) (b + 1)) (eqb a b)
     (λ e. eqb-true a b (omega (arith, eqb-is (a + 1) (b + 1) e)))
@@ -76,31 +72,3 @@ module _ (r : Rows) (F : Facts r) where
   pub home-small : (a : ℕ) (x : Account) → getElem? (r .accounts) a ≡ some x → x .csd < csdLimit
   unfolding inBooks
   home-small a x e = csd-small (x .csd) (F .homeRow a (x .csd) (rw e (eqb-true (x .csd) (x .csd) refl)))
-
-  -- ---- pairs
-  -- an account beyond the table is in no pair
-  pub unpaired : (a : ℕ) → accountLimit ≤ a → isPaired (r .pairs) a ≡ false
-  unfolding isPaired
-  unpaired a l =
-      and-untrue (not (eqb a noAccount)) (any (uses a) (r .pairs))
-      (λ e. none-any (uses a) (r .pairs) (λ p m. untrue (uses a p) (λ u. never p m (eqb-not a noAccount (unnot (eqb a noAccount) e)) u)))
-    where
-      never : (p : Pair) → List·Memᴰ p (r .pairs) → a ≢ noAccount → uses a p ≡ true → ⊥
-      never p m n u =
-          elim (or-cases (eqb (p .mirror) a) (eqb (p .omnibus) a) u) [
-            | inl e ↦ omega (arith, eqb-is (p .mirror) a e, books-small r F (p .mirror) (p .investor) (F .pairs p m .mirrorBooks))
-            | inr e ↦ elim (pair-cases r p (F .pairs p m)) [
-              | inl h ↦ omega (arith, eqb-is (p .omnibus) a e, books-small r F (p .omnibus) (p .technical) (h .omnibusBooks))
-              | inr h ↦ n (sym (eqb-is (p .omnibus) a e) ∙ h .alone)
-            ]
-          ]
-
-  -- CSDs beyond the table have no pair
-  pub unjoined : (i t : ℕ) → (i < csdLimit → t < csdLimit → ⊥) → pairOf (r .pairs) i t ≡ none
-  unjoined i t n = go (pairOf (r .pairs) i t) refl
-    where
-      go : (o : Option Pair) → pairOf (r .pairs) i t ≡ o → o ≡ none
-      go none e = refl
-      go (some p) e =
-          let f = found-pair (r .pairs) i t p e in
-          absurd (n (rw (f .1) at (csd-small (p .investor) (F .pairs p (f .0) .investorRow))) (rw (f .2) at (csd-small (p .technical) (F .pairs p (f .0) .technicalRow))))

@@ -8,7 +8,7 @@ use lib.Dec.{ltb}
 use borrow.Author.Tests.{ltb-true, lt-ltb}
 use Rattle.rules.specs.Directory.{csdLimit, securityLimit, accountLimit}
 use Rattle.rules.proofs.Basics.{clash, and-both, and-true}
-use Rattle.index.specs.Index.{Place, csdCount, securityCount, accountCount, pairCount, linkCount, typeAt, homeAt, kindAt, pairedAt, mirrorAt, omnibusAt, routeAt, issuanceAt, linkAt, Inside, placeOf, numberAt}
+use Rattle.index.specs.Index.{Place, csdCount, securityCount, accountCount, pairCount, linkCount, typeAt, homeAt, kindAt, mirrorAt, omnibusAt, investorAt, technicalAt, servedAt, routeAt, issuanceAt, linkAt, Inside, placeOf, numberAt}
 use Rattle.index.specs.Asked.{has, read}
 
 pub read-in : (l : List ℕ) (p : Place) → has p ≡ true → numberAt l (placeOf p) ≡ read l p
@@ -44,9 +44,11 @@ inside linkCount e = tt
 inside (typeAt c) e = ltb-true c csdLimit e
 inside (homeAt a) e = ltb-true a accountLimit e
 inside (kindAt a) e = ltb-true a accountLimit e
-inside (pairedAt a) e = ltb-true a accountLimit e
-inside (mirrorAt i t) e = both i t csdLimit csdLimit e
-inside (omnibusAt i t) e = both i t csdLimit csdLimit e
+inside (mirrorAt a) e = ltb-true a accountLimit e
+inside (omnibusAt a) e = ltb-true a accountLimit e
+inside (investorAt a) e = ltb-true a accountLimit e
+inside (technicalAt a) e = ltb-true a accountLimit e
+inside (servedAt t a) e = both t a csdLimit accountLimit e
 inside (routeAt s c) e = both s c securityLimit csdLimit e
 inside (issuanceAt s c) e = both s c securityLimit csdLimit e
 inside (linkAt s c t) e =

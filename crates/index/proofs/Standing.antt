@@ -10,7 +10,7 @@ use lib.ListN.{length, getD, length-set}
 use lib.Seq.{getD-set-same, getD-set-other}
 use borrow.Author.Tests.{lt-ltb, le-ltb}
 use Rattle.rules.specs.Directory.{csdLimit}
-use Rattle.index.specs.Index.{Place, csdCount, securityCount, accountCount, pairCount, linkCount, typeAt, homeAt, kindAt, pairedAt, mirrorAt, omnibusAt, routeAt, issuanceAt, linkAt, Inside, placeOf, types, homes, kinds, paired, mirrors, omnibuses, routes, issuances, linked, indexSize, numberAt, withNumber}
+use Rattle.index.specs.Index.{Place, csdCount, securityCount, accountCount, pairCount, linkCount, typeAt, homeAt, kindAt, mirrorAt, omnibusAt, investorAt, technicalAt, servedAt, routeAt, issuanceAt, linkAt, Inside, placeOf, types, homes, kinds, mirrors, omnibuses, investors, technicals, served, routes, issuances, linked, indexSize, numberAt, withNumber}
 
 -- ---- the number of a place tells the place
 pub below : (p : Place) → Inside p → placeOf p < indexSize
@@ -22,9 +22,11 @@ below linkCount i = omega arith
 below (typeAt c) i = omega arith
 below (homeAt a) i = omega arith
 below (kindAt a) i = omega arith
-below (pairedAt a) i = omega arith
-below (mirrorAt c t) i = omega arith
-below (omnibusAt c t) i = omega arith
+below (mirrorAt a) i = omega arith
+below (omnibusAt a) i = omega arith
+below (investorAt a) i = omega arith
+below (technicalAt a) i = omega arith
+below (servedAt t a) i = omega arith
 below (routeAt s c) i = omega arith
 below (issuanceAt s c) i = omega arith
 below (linkAt s c t) i = omega arith
@@ -33,20 +35,22 @@ below (linkAt s c t) i = omega arith
 abbrev placeAt : ℕ → Place
 placeAt n =
     cond (ltb n mirrors)
-    (cond (ltb n kinds)
+    (cond (ltb n homes)
     (cond (ltb n types)
     (cond (ltb n 1) csdCount (cond (ltb n 2) securityCount (cond (ltb n 3) accountCount (cond (ltb n 4) pairCount linkCount))))
-    (cond (ltb n homes) (typeAt (n - types)) (homeAt (n - homes))))
-    (cond (ltb n paired) (kindAt (n - kinds)) (pairedAt (n - paired))))
+    (typeAt (n - types)))
+    (cond (ltb n kinds) (homeAt (n - homes)) (kindAt (n - kinds))))
+    (cond (ltb n served)
+    (cond (ltb n investors)
+    (cond (ltb n omnibuses) (mirrorAt (n - mirrors)) (omnibusAt (n - omnibuses)))
+    (cond (ltb n technicals) (investorAt (n - investors)) (technicalAt (n - technicals))))
     (cond (ltb n issuances)
-    (cond (ltb n omnibuses)
-    (mirrorAt ((n - mirrors) / csdLimit) ((n - mirrors) % csdLimit))
     (cond (ltb n routes)
-    (omnibusAt ((n - omnibuses) / csdLimit) ((n - omnibuses) % csdLimit))
-    (routeAt ((n - routes) / csdLimit) ((n - routes) % csdLimit))))
+    (servedAt ((n - served) % csdLimit) ((n - served) / csdLimit))
+    (routeAt ((n - routes) / csdLimit) ((n - routes) % csdLimit)))
     (cond (ltb n linked)
     (issuanceAt ((n - issuances) / csdLimit) ((n - issuances) % csdLimit))
-    (linkAt ((n - linked) / csdLimit / csdLimit) ((n - linked) / csdLimit % csdLimit) ((n - linked) % csdLimit))))
+    (linkAt ((n - linked) / csdLimit / csdLimit) ((n - linked) / csdLimit % csdLimit) ((n - linked) % csdLimit)))))
 
 -- a number of a table of CSDs by something
 line : (from n c : ℕ) → c < csdLimit → (from + (n * csdLimit + c) - from) / csdLimit ≡ n
@@ -62,31 +66,41 @@ told accountCount i = refl
 told pairCount i = refl
 told linkCount i = refl
 told (typeAt c) i =
-    rw (lt-ltb (types + c) mirrors (omega arith), lt-ltb (types + c) kinds (omega arith), le-ltb (types + c) types (omega arith), lt-ltb (types + c) homes (omega arith))
-    (ap typeAt (omega arith))
+    let n : ℕ = types + c in
+    rw (lt-ltb n mirrors (omega arith), lt-ltb n homes (omega arith), le-ltb n types (omega arith)) (ap typeAt (omega arith))
 told (homeAt a) i =
-    rw (lt-ltb (homes + a) mirrors (omega arith), lt-ltb (homes + a) kinds (omega arith), le-ltb (homes + a) types (omega arith), le-ltb (homes + a) homes (omega arith))
-    (ap homeAt (omega arith))
-told (kindAt a) i = rw (lt-ltb (kinds + a) mirrors (omega arith), le-ltb (kinds + a) kinds (omega arith), lt-ltb (kinds + a) paired (omega arith)) (ap kindAt (omega arith))
-told (pairedAt a) i = rw (lt-ltb (paired + a) mirrors (omega arith), le-ltb (paired + a) kinds (omega arith), le-ltb (paired + a) paired (omega arith)) (ap pairedAt (omega arith))
-told (mirrorAt c t) i =
-    let n : ℕ = mirrors + (c * csdLimit + t) in
-    rw (le-ltb n mirrors (omega arith), lt-ltb n issuances (omega arith), lt-ltb n omnibuses (omega arith), line mirrors c t (i .1), column mirrors c t (i .1))
-told (omnibusAt c t) i =
-    let n : ℕ = omnibuses + (c * csdLimit + t) in
-    rw (le-ltb n mirrors (omega arith), lt-ltb n issuances (omega arith), le-ltb n omnibuses (omega arith), lt-ltb n routes (omega arith), line omnibuses c t (i .1), column omnibuses c t (i .1))
+    let n : ℕ = homes + a in
+    rw (lt-ltb n mirrors (omega arith), le-ltb n homes (omega arith), lt-ltb n kinds (omega arith)) (ap homeAt (omega arith))
+told (kindAt a) i =
+    let n : ℕ = kinds + a in
+    rw (lt-ltb n mirrors (omega arith), le-ltb n homes (omega arith), le-ltb n kinds (omega arith)) (ap kindAt (omega arith))
+told (mirrorAt a) i =
+    let n : ℕ = mirrors + a in
+    rw (le-ltb n mirrors (omega arith), lt-ltb n served (omega arith), lt-ltb n investors (omega arith), lt-ltb n omnibuses (omega arith)) (ap mirrorAt (omega arith))
+told (omnibusAt a) i =
+    let n : ℕ = omnibuses + a in
+    rw (le-ltb n mirrors (omega arith), lt-ltb n served (omega arith), lt-ltb n investors (omega arith), le-ltb n omnibuses (omega arith)) (ap omnibusAt (omega arith))
+told (investorAt a) i =
+    let n : ℕ = investors + a in
+    rw (le-ltb n mirrors (omega arith), lt-ltb n served (omega arith), le-ltb n investors (omega arith), lt-ltb n technicals (omega arith)) (ap investorAt (omega arith))
+told (technicalAt a) i =
+    let n : ℕ = technicals + a in
+    rw (le-ltb n mirrors (omega arith), lt-ltb n served (omega arith), le-ltb n investors (omega arith), le-ltb n technicals (omega arith)) (ap technicalAt (omega arith))
+told (servedAt t a) i =
+    let n : ℕ = served + (a * csdLimit + t) in
+    rw (le-ltb n mirrors (omega arith), le-ltb n served (omega arith), lt-ltb n issuances (omega arith), lt-ltb n routes (omega arith), line served a t (i .0), column served a t (i .0))
 told (routeAt s c) i =
     let n : ℕ = routes + (s * csdLimit + c) in
-    rw (le-ltb n mirrors (omega arith), lt-ltb n issuances (omega arith), le-ltb n omnibuses (omega arith), le-ltb n routes (omega arith), line routes s c (i .1), column routes s c (i .1))
+    rw (le-ltb n mirrors (omega arith), le-ltb n served (omega arith), lt-ltb n issuances (omega arith), le-ltb n routes (omega arith), line routes s c (i .1), column routes s c (i .1))
 told (issuanceAt s c) i =
     let n : ℕ = issuances + (s * csdLimit + c) in
-    rw (le-ltb n mirrors (omega arith), le-ltb n issuances (omega arith), lt-ltb n linked (omega arith), line issuances s c (i .1), column issuances s c (i .1))
+    rw (le-ltb n mirrors (omega arith), le-ltb n served (omega arith), le-ltb n issuances (omega arith), lt-ltb n linked (omega arith), line issuances s c (i .1), column issuances s c (i .1))
 told (linkAt s c t) i =
     let n : ℕ = linked + ((s * csdLimit + c) * csdLimit + t) in
     let row = s * csdLimit + c in
     let security : row / csdLimit ≡ s = omega arith in
     let csd : row % csdLimit ≡ c = omega arith in
-    rw (le-ltb n mirrors (omega arith), le-ltb n issuances (omega arith), le-ltb n linked (omega arith), line linked row t (i .1 .1), column linked row t (i .1 .1), security, csd)
+    rw (le-ltb n mirrors (omega arith), le-ltb n served (omega arith), le-ltb n issuances (omega arith), le-ltb n linked (omega arith), line linked row t (i .1 .1), column linked row t (i .1 .1), security, csd)
 
 pub same-place : (p q : Place) → Inside p → Inside q → placeOf p ≡ placeOf q → p ≡ q
 same-place p q i j e = sym (told p i) ∙ (ap placeAt e ∙ told q j)

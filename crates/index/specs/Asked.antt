@@ -10,7 +10,7 @@ use Rattle.rules.specs.declared.Pair.{Pair}
 use Rattle.rules.specs.declared.Directory.{Directory}
 use Rattle.rules.specs.Directory.{rowsOf, csdLimit, securityLimit, accountLimit, pairLimit, linkLimit, noCsd, noAccount}
 use Rattle.rules.specs.Lookups.{Lookups, ask}
-use Rattle.index.specs.Index.{Indexed, Place, csdCount, securityCount, accountCount, pairCount, linkCount, typeAt, homeAt, kindAt, pairedAt, mirrorAt, omnibusAt, routeAt, issuanceAt, linkAt, placeOf, numberAt, issuerCode}
+use Rattle.index.specs.Index.{Indexed, Place, csdCount, securityCount, accountCount, pairCount, linkCount, typeAt, homeAt, kindAt, mirrorAt, omnibusAt, investorAt, technicalAt, servedAt, routeAt, issuanceAt, linkAt, placeOf, numberAt, issuerCode}
 
 -- the places that an index has
 abbrev pub has : Place → Bool
@@ -22,9 +22,11 @@ has linkCount = true
 has (typeAt c) = ltb c csdLimit
 has (homeAt a) = ltb a accountLimit
 has (kindAt a) = ltb a accountLimit
-has (pairedAt a) = ltb a accountLimit
-has (mirrorAt i t) = ltb i csdLimit && ltb t csdLimit
-has (omnibusAt i t) = ltb i csdLimit && ltb t csdLimit
+has (mirrorAt a) = ltb a accountLimit
+has (omnibusAt a) = ltb a accountLimit
+has (investorAt a) = ltb a accountLimit
+has (technicalAt a) = ltb a accountLimit
+has (servedAt t a) = ltb t csdLimit && ltb a accountLimit
 has (routeAt s c) = ltb s securityLimit && ltb c csdLimit
 has (issuanceAt s c) = ltb s securityLimit && ltb c csdLimit
 has (linkAt s c t) = ltb s securityLimit && (ltb c csdLimit && ltb t csdLimit)
@@ -37,9 +39,20 @@ read l p = cond (has p) (numberAt l (placeOf p)) 0
 abbrev pub homeBy : ℕ → ℕ
 homeBy code = cond (eqb code 0) noCsd (cond (ltb 256 code) noCsd (code - 1))
 
--- a pair by its codes
-abbrev pub pairBy : ℕ → ℕ → ℕ → ℕ → Option Pair
-pairBy i t mirror omnibus = cond (eqb mirror 0) none (some (record { investor = i; technical = t; mirror = mirror - 1; omnibus = omnibus }))
+-- the account stands in the books of this CSD
+abbrev pub booksIn : List ℕ → ℕ → ℕ → Bool
+booksIn l a c = eqb (read l (homeAt a)) (c + 1)
+
+-- a pair row by its first account: the second is the one that stands in a duo with it
+abbrev pub pairBy : List ℕ → ℕ → ℕ → ℕ → ℕ → Option Pair
+pairBy l i t a code =
+    cond (eqb code 0) none (some (record { investor = i; technical = t; mirror = code - 1; omnibus = read l (omnibusAt (code - 1)); served = a }))
+
+-- the duo of the account a is that of x
+abbrev pub duoIs : List ℕ → ℕ → Pair → Bool
+duoIs l a x =
+    (eqb (read l (mirrorAt a)) (x .mirror + 1) && eqb (read l (omnibusAt a)) (x .omnibus))
+    && (eqb (read l (investorAt a)) (x .investor) && eqb (read l (technicalAt a)) (x .technical))
 
 -- a technical issuer by its code
 abbrev pub onwardBy : ℕ → Option ℕ
@@ -57,11 +70,11 @@ asked l =
       account = λ a. not (eqb (read l (homeAt a)) 0);
       outside = λ c. eqb (read l (typeAt c)) 2;
       home = λ a. homeBy (read l (homeAt a));
-      books = λ a c. eqb (read l (homeAt a)) (c + 1);
+      books = booksIn l;
       kind = λ a k. eqb (read l (kindAt a)) (k + 1);
-      paired = λ a. not (eqb (read l (pairedAt a)) 0);
-      pair = λ i t. pairBy i t (read l (mirrorAt i t)) (read l (omnibusAt i t));
-      joined = λ i t. not (eqb (read l (mirrorAt i t)) 0);
+      apart = λ a x. not (eqb (read l (mirrorAt a)) 0) && not (duoIs l a x);
+      pair = λ i t a. cond (booksIn l a i) (pairBy l i t a (read l (servedAt t a))) none;
+      served = λ i t a. not (eqb (read l (servedAt t a)) 0) && booksIn l a i;
       anyLink = λ s c. not (eqb (read l (routeAt s c)) 0);
       issuer = λ s c. leb issuerCode (read l (routeAt s c));
       investor = λ s c. not (eqb (read l (routeAt s c)) 0) && ltb (read l (routeAt s c)) issuerCode;

@@ -1,23 +1,24 @@
 -- The index of a directory: one number for each question that a chain, a booking or an entry asks of the tables. Assumes nothing.
 use mathlib.Core.Path.{_≡_}
 use Prim.Native.Nat.{ℕ, _+_, _*_, _<_}
-use mathlib.Core.Bool.{Bool, true, cond}
+use mathlib.Core.Bool.{Bool, true, _&&_, cond}
 use mathlib.Core.List.{List}
 use mathlib.Core.Option.{Option, none, some}
-use lib.Dec.{ltb}
+use lib.Dec.{ltb, eqb}
 use lib.ListN.{length, getD, set, getElem?}
 use Rattle.rules.specs.declared.Csd.{Csd}
 use Rattle.rules.specs.declared.Account.{Account}
 use Rattle.rules.specs.declared.Pair.{Pair}
 use Rattle.rules.specs.declared.Link.{Link}
 use Rattle.rules.specs.declared.Directory.{Directory}
-use Rattle.rules.specs.Directory.{Rows, rowsOf, csdLimit, securityLimit, accountLimit, pairLimit, linkLimit, pairOf, isPaired, hasIssuer, hasLinkTo, defaultLink}
+use Rattle.rules.specs.Directory.{Rows, rowsOf, csdLimit, securityLimit, accountLimit, pairLimit, linkLimit, noAccount, uses, hasIssuer, hasLinkTo, defaultLink}
+use Rattle.rules.specs.Tests.{find}
 use Rattle.rules.specs.Entries.{sound}
 use Rattle.rules.specs.Lookups.{issuance}
 
--- What stands in an index: the counts of the five tables; by CSD its type; by account its CSD, its kind and whether it is in a pair; by investor and
--- technical issuer the accounts of their pair; by security and CSD where the default walk leads, and the issuance account; by security, CSD and
--- technical issuer whether they are linked.
+-- What stands in an index: the counts of the five tables; by CSD its type; by account its CSD, its kind and the duo that it is in: investor, technical
+-- issuer and the two accounts; by technical issuer and account served the first account of their pair row; by security and CSD where the default walk
+-- leads, and the issuance account; by security, CSD and technical issuer whether they are linked.
 pub data Place : Type 0 where
   csdCount : Place
   securityCount : Place
@@ -27,9 +28,11 @@ pub data Place : Type 0 where
   typeAt : ℕ → Place
   homeAt : ℕ → Place
   kindAt : ℕ → Place
-  pairedAt : ℕ → Place
-  mirrorAt : ℕ → ℕ → Place
-  omnibusAt : ℕ → ℕ → Place
+  mirrorAt : ℕ → Place
+  omnibusAt : ℕ → Place
+  investorAt : ℕ → Place
+  technicalAt : ℕ → Place
+  servedAt : ℕ → ℕ → Place
   routeAt : ℕ → ℕ → Place
   issuanceAt : ℕ → ℕ → Place
   linkAt : ℕ → ℕ → ℕ → Place
@@ -53,6 +56,18 @@ kindCode (some x) = x .kind + 1
 abbrev pub flagCode : Bool → ℕ
 flagCode b = cond b 1 0
 
+-- the first row that has the account as one of its two; all that have it are of one duo. Hex FFFF is in none
+unfoldable pub duoOf : List Pair → ℕ → Option Pair
+duoOf ps a = cond (eqb a noAccount) none (find (uses a) ps)
+
+-- the row serves the account at the technical issuer
+abbrev pub servesAt : ℕ → ℕ → Pair → Bool
+servesAt t a p = eqb (p .technical) t && eqb (p .served) a
+
+-- the first such row: its investor is the account's CSD
+unfoldable pub servedRow : List Pair → ℕ → ℕ → Option Pair
+servedRow ps t a = find (servesAt t a) ps
+
 -- the pair's account in the investor's books
 abbrev pub mirrorCode : Option Pair → ℕ
 mirrorCode none = 0
@@ -62,6 +77,16 @@ mirrorCode (some p) = p .mirror + 1
 abbrev pub omnibusCode : Option Pair → ℕ
 omnibusCode none = 0
 omnibusCode (some p) = p .omnibus
+
+-- the pair's investor
+abbrev pub investorCode : Option Pair → ℕ
+investorCode none = 0
+investorCode (some p) = p .investor
+
+-- the pair's technical issuer
+abbrev pub technicalCode : Option Pair → ℕ
+technicalCode none = 0
+technicalCode (some p) = p .technical
 
 -- the code of an issuer, which is above that of every technical issuer
 abbrev pub issuerCode : ℕ
@@ -82,9 +107,11 @@ indexOf r linkCount = length (r .links)
 indexOf r (typeAt c) = typeCode (getElem? (r .csds) c)
 indexOf r (homeAt a) = homeCode (getElem? (r .accounts) a)
 indexOf r (kindAt a) = kindCode (getElem? (r .accounts) a)
-indexOf r (pairedAt a) = flagCode (isPaired (r .pairs) a)
-indexOf r (mirrorAt i t) = mirrorCode (pairOf (r .pairs) i t)
-indexOf r (omnibusAt i t) = omnibusCode (pairOf (r .pairs) i t)
+indexOf r (mirrorAt a) = mirrorCode (duoOf (r .pairs) a)
+indexOf r (omnibusAt a) = omnibusCode (duoOf (r .pairs) a)
+indexOf r (investorAt a) = investorCode (duoOf (r .pairs) a)
+indexOf r (technicalAt a) = technicalCode (duoOf (r .pairs) a)
+indexOf r (servedAt t a) = mirrorCode (servedRow (r .pairs) t a)
 indexOf r (routeAt s c) = cond (hasIssuer (r .links) s c) issuerCode (defaultCode (defaultLink (r .links) s c))
 indexOf r (issuanceAt s c) = cond (hasIssuer (r .links) s c) (issuance (r .links) s c) 0
 indexOf r (linkAt s c t) = flagCode (hasLinkTo (r .links) s c t)
@@ -99,9 +126,11 @@ Inside linkCount = Unit {0}
 Inside (typeAt c) = c < csdLimit
 Inside (homeAt a) = a < accountLimit
 Inside (kindAt a) = a < accountLimit
-Inside (pairedAt a) = a < accountLimit
-Inside (mirrorAt i t) = (i < csdLimit) × (t < csdLimit)
-Inside (omnibusAt i t) = (i < csdLimit) × (t < csdLimit)
+Inside (mirrorAt a) = a < accountLimit
+Inside (omnibusAt a) = a < accountLimit
+Inside (investorAt a) = a < accountLimit
+Inside (technicalAt a) = a < accountLimit
+Inside (servedAt t a) = (t < csdLimit) × (a < accountLimit)
 Inside (routeAt s c) = (s < securityLimit) × (c < csdLimit)
 Inside (issuanceAt s c) = (s < securityLimit) × (c < csdLimit)
 Inside (linkAt s c t) = (s < securityLimit) × ((c < csdLimit) × (t < csdLimit))
@@ -116,17 +145,23 @@ homes = types + csdLimit
 abbrev pub kinds : ℕ
 kinds = homes + accountLimit
 
-abbrev pub paired : ℕ
-paired = kinds + accountLimit
-
 abbrev pub mirrors : ℕ
-mirrors = paired + accountLimit
+mirrors = kinds + accountLimit
 
 abbrev pub omnibuses : ℕ
-omnibuses = mirrors + csdLimit * csdLimit
+omnibuses = mirrors + accountLimit
+
+abbrev pub investors : ℕ
+investors = omnibuses + accountLimit
+
+abbrev pub technicals : ℕ
+technicals = investors + accountLimit
+
+abbrev pub served : ℕ
+served = technicals + accountLimit
 
 abbrev pub routes : ℕ
-routes = omnibuses + csdLimit * csdLimit
+routes = served + accountLimit * csdLimit
 
 abbrev pub issuances : ℕ
 issuances = routes + securityLimit * csdLimit
@@ -156,9 +191,11 @@ placeOf linkCount = 4
 placeOf (typeAt c) = types + c
 placeOf (homeAt a) = homes + a
 placeOf (kindAt a) = kinds + a
-placeOf (pairedAt a) = paired + a
-placeOf (mirrorAt i t) = mirrors + (i * csdLimit + t)
-placeOf (omnibusAt i t) = omnibuses + (i * csdLimit + t)
+placeOf (mirrorAt a) = mirrors + a
+placeOf (omnibusAt a) = omnibuses + a
+placeOf (investorAt a) = investors + a
+placeOf (technicalAt a) = technicals + a
+placeOf (servedAt t a) = served + (a * csdLimit + t)
 placeOf (routeAt s c) = routes + (s * csdLimit + c)
 placeOf (issuanceAt s c) = issuances + (s * csdLimit + c)
 placeOf (linkAt s c t) = linked + ((s * csdLimit + c) * csdLimit + t)

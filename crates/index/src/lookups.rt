@@ -3,6 +3,7 @@
 use crate::places::ACCOUNT_COUNT;
 use crate::places::HOMES;
 use crate::places::INDEX;
+use crate::places::INVESTORS;
 use crate::places::ISSUANCES;
 use crate::places::ISSUER;
 use crate::places::KINDS;
@@ -11,9 +12,10 @@ use crate::places::LINKED;
 use crate::places::MIRRORS;
 use crate::places::OMNIBUSES;
 use crate::places::PAIR_COUNT;
-use crate::places::PAIRED;
 use crate::places::ROUTES;
 use crate::places::SECURITY_COUNT;
+use crate::places::SERVED;
+use crate::places::TECHNICALS;
 use crate::places::TYPES;
 use crate::places::entry;
 use rules::ACCOUNTS;
@@ -25,9 +27,10 @@ use rules::PAIRS;
 use rules::Pair;
 use rules::SECURITIES;
 ghost use mathlib.Core.Path.{_≡_};
+ghost use Prim.Native.Nat.{_<_};
 ghost use Rattle.rules.specs.Lookups.{isAccountOf};
-ghost use Rattle.index.specs.Index.{typeAt, homeAt, kindAt, mirrorAt, routeAt};
-ghost use Rattle.index.specs.Asked.{read, asked};
+ghost use Rattle.index.specs.Index.{typeAt, homeAt, kindAt, omnibusAt, servedAt, routeAt};
+ghost use Rattle.index.specs.Asked.{read, duoIs, asked};
 ghost use Rattle.index.specs.Found.{leadingOf, pairFound};
 
 // A pair's row, if there is one.
@@ -156,55 +159,86 @@ pub fn is_account_of(index: &[u16; INDEX], account: u16, csd: u8, kind: u8) -> b
     in_books(index, account, csd) & is_kind(index, account, kind)
 }
 
-// Whether the account is in a pair; hex FFFF never is.
-pub fn is_paired(index: &[u16; INDEX], account: u16) -> bool
-    ensures { λ r. ⌜ r ≡ asked (now (index .entry)) .paired account ⌝ }
+// Whether the duo of an account of the table is that of this row.
+fn is_duo_of(index: &[u16; INDEX], account: u16, row: Pair) -> bool
+    requires { ⌜ account < 256 ⌝ }
+    ensures { λ r. ⌜ r ≡ duoIs (now (index .entry)) account row ⌝ }
+{
+    let a = account as usize;
+    let mirror = (entry(index, MIRRORS + a) as u32) == (row.mirror as u32) + 1;
+    let omnibus = entry(index, OMNIBUSES + a) == row.omnibus;
+    let investor = entry(index, INVESTORS + a) == (row.investor as u16);
+    let technical = entry(index, TECHNICALS + a) == (row.technical as u16);
+    (mirror & omnibus) & (investor & technical)
+}
+
+// Whether the account is in a duo other than that of this row; hex FFFF is in none.
+pub fn is_apart(index: &[u16; INDEX], account: u16, row: Pair) -> bool
+    ensures { λ r. ⌜ r ≡ asked (now (index .entry)) .apart account row ⌝ }
 {
     let a = account as usize;
     if ACCOUNTS <= a {
         return false;
     }
-    entry(index, PAIRED + a) != 0
+    if entry(index, MIRRORS + a) == 0 {
+        return false;
+    }
+    !is_duo_of(index, account, row)
 }
 
-// One more than the pair's account in the investor's books, 0 where they have no pair.
-fn mirror_code(index: &[u16; INDEX], investor: u8, technical: u8) -> u16
-    ensures { λ r. ⌜ r ≡ read (now (index .entry)) (mirrorAt investor technical) ⌝ }
+// One more than the first account of the row that serves the account at the technical issuer, 0 where there is none.
+fn served_code(index: &[u16; INDEX], technical: u8, served: u16) -> u16
+    ensures { λ r. ⌜ r ≡ read (now (index .entry)) (servedAt technical served) ⌝ }
 {
-    let i = investor as usize;
     let t = technical as usize;
-    if CSDS <= i {
-        return 0;
-    }
+    let a = served as usize;
     if CSDS <= t {
         return 0;
     }
-    entry(index, MIRRORS + (i * CSDS + t))
+    if ACCOUNTS <= a {
+        return 0;
+    }
+    entry(index, SERVED + (a * CSDS + t))
 }
 
-// The pair of an investor CSD and its technical issuer.
-pub fn pair_of(index: &[u16; INDEX], investor: u8, technical: u8) -> PairFound
-    ensures { λ r. ⌜ r ≡ pairFound (asked (now (index .entry)) .pair investor technical) ⌝ }
+// The account that stands in a duo with the account in the investor's books.
+fn omnibus_beside(index: &[u16; INDEX], mirror: u16) -> u16
+    ensures { λ r. ⌜ r ≡ read (now (index .entry)) (omnibusAt mirror) ⌝ }
 {
-    let code = mirror_code(index, investor, technical);
+    let a = mirror as usize;
+    if ACCOUNTS <= a {
+        return 0;
+    }
+    entry(index, OMNIBUSES + a)
+}
+
+// The row of an investor CSD, its technical issuer and the account served.
+pub fn pair_of(index: &[u16; INDEX], investor: u8, technical: u8, served: u16) -> PairFound
+    ensures { λ r. ⌜ r ≡ pairFound (asked (now (index .entry)) .pair investor technical served) ⌝ }
+{
+    if !in_books(index, served, investor) {
+        return PairFound::Missing;
+    }
+    let code = served_code(index, technical, served);
     if code == 0 {
         return PairFound::Missing;
     }
-    let place = (investor as usize) * CSDS + (technical as usize);
-    let omnibus = entry(index, OMNIBUSES + place);
+    let mirror = code - 1;
+    let omnibus = omnibus_beside(index, mirror);
     PairFound::Row(Pair {
         investor,
         technical,
-        mirror: code - 1,
+        mirror,
         omnibus,
+        served,
     })
 }
 
-// Whether they have a pair.
-pub fn is_joined(index: &[u16; INDEX], investor: u8, technical: u8) -> bool
-    ensures { λ r. ⌜ r ≡ asked (now (index .entry)) .joined investor technical ⌝ }
+// Whether there is one.
+pub fn is_served(index: &[u16; INDEX], investor: u8, technical: u8, served: u16) -> bool
+    ensures { λ r. ⌜ r ≡ asked (now (index .entry)) .served investor technical served ⌝ }
 {
-    mirror_code(index, investor, technical) != 0
+    (served_code(index, technical, served) != 0) & in_books(index, served, investor)
 }
 
 // What stands for the CSD's links for the security: where they lead by default.

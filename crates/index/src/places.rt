@@ -19,20 +19,25 @@ pub const LINK_COUNT: usize = 4;
 // By CSD: its type.
 pub const TYPES: usize = 5;
 
-// By account: its CSD, its kind, whether it is in a pair.
+// By account: its CSD, its kind.
 pub const HOMES: usize = TYPES + CSDS;
 
 pub const KINDS: usize = HOMES + ACCOUNTS;
 
-pub const PAIRED: usize = KINDS + ACCOUNTS;
+// And the duo that it is in: one more than the account in the investor's books, 0 for no duo; the other account; investor and technical issuer.
+pub const MIRRORS: usize = KINDS + ACCOUNTS;
 
-// By investor and technical issuer: the accounts of their pair.
-pub const MIRRORS: usize = PAIRED + ACCOUNTS;
+pub const OMNIBUSES: usize = MIRRORS + ACCOUNTS;
 
-pub const OMNIBUSES: usize = MIRRORS + CSDS * CSDS;
+pub const INVESTORS: usize = OMNIBUSES + ACCOUNTS;
+
+pub const TECHNICALS: usize = INVESTORS + ACCOUNTS;
+
+// By account served and technical issuer: one more than the account in the investor's books, 0 for no row.
+pub const SERVED: usize = TECHNICALS + ACCOUNTS;
 
 // By security and CSD: where the default walk leads, and the issuance account.
-pub const ROUTES: usize = OMNIBUSES + CSDS * CSDS;
+pub const ROUTES: usize = SERVED + ACCOUNTS * CSDS;
 
 pub const ISSUANCES: usize = ROUTES + SECURITIES * CSDS;
 

@@ -1,4 +1,4 @@
--- The directory as five counts and 2,368 bytes, and steps as 5 bytes each. A row has the bytes of the command that enters it. Assumes nothing.
+-- The directory as five counts and 6,080 bytes, and steps as 5 bytes each. A row has the bytes of the command that enters it. Assumes nothing.
 use Prim.Native.Nat.{ℕ, zero, suc, _+_, _*_, _/_, _%_}
 use mathlib.Core.Path.{_≡_}
 use mathlib.Core.Bool.{cond, _&&_}
@@ -36,7 +36,7 @@ abbrev pub accountWidth : ℕ
 accountWidth = 2
 
 abbrev pub pairWidth : ℕ
-pairWidth = 6
+pairWidth = 8
 
 abbrev pub linkWidth : ℕ
 linkWidth = 7
@@ -161,7 +161,8 @@ abbrev pub accountBytes : Account → List ℕ
 accountBytes x = x .csd ∷ x .kind ∷ []
 
 abbrev pub pairBytes : Pair → List ℕ
-pairBytes x = x .investor ∷ x .technical ∷ x .mirror / 256 ∷ x .mirror % 256 ∷ x .omnibus / 256 ∷ x .omnibus % 256 ∷ []
+pairBytes x =
+    x .investor ∷ x .technical ∷ x .mirror / 256 ∷ x .mirror % 256 ∷ x .omnibus / 256 ∷ x .omnibus % 256 ∷ x .served / 256 ∷ x .served % 256 ∷ []
 
 abbrev pub linkBytes : Link → List ℕ
 linkBytes x = x .security ∷ x .kind ∷ x .csd ∷ x .technical ∷ x .flag ∷ x .account / 256 ∷ x .account % 256 ∷ []

@@ -41,7 +41,7 @@ const SECURITY_WIDTH: usize = 12;
 
 const ACCOUNT_WIDTH: usize = 2;
 
-const PAIR_WIDTH: usize = 6;
+const PAIR_WIDTH: usize = 8;
 
 const LINK_WIDTH: usize = 7;
 
@@ -132,6 +132,7 @@ fn read_pairs(count: usize, bytes: &[u8]) -> PairTable
         technical: 0,
         mirror: 0,
         omnibus: 0,
+        served: 0,
     }; PAIRS];
     let mut i: usize = 0;
     while i < PAIRS {
@@ -185,7 +186,7 @@ pub fn read_directory(counts: &[usize], bytes: &[u8]) -> Directory
     }
 }
 
-// ---- writing: byte k of a row, and each table byte by byte
+// ---- writing: byte k of a row, and each table byte by byte; pairs row by row
 
 fn high(x: u16) -> u8
     ensures { λ r. ⌜ r ≡ x / 256 ⌝ }
@@ -224,28 +225,6 @@ fn account_byte(row: Account, k: usize) -> u8
         return row.csd;
     }
     row.kind
-}
-
-fn pair_byte(row: Pair, k: usize) -> u8
-    requires { ⌜ k < pairWidth ⌝ }
-    ensures { λ r. ⌜ r ≡ getD (pairBytes row) k 0 ⌝ }
-{
-    if k == 0 {
-        return row.investor;
-    }
-    if k == 1 {
-        return row.technical;
-    }
-    if k == 2 {
-        return high(row.mirror);
-    }
-    if k == 3 {
-        return low(row.mirror);
-    }
-    if k == 4 {
-        return high(row.omnibus);
-    }
-    low(row.omnibus)
 }
 
 fn link_byte(row: Link, k: usize) -> u8
@@ -328,14 +307,29 @@ fn write_accounts(bytes: &mut [u8], table: AccountTable)
     }
 }
 
+// The bytes of a pair from index `at` on, without a test for each.
+fn put_pair(bytes: &mut [u8], at: usize, row: Pair)
+    requires { ⌜ at + pairWidth ≤ length (now bytes) ⌝ }
+    ensures { λ _. ⌜ Put at (at + pairWidth) (pairBytes row) (now (bytes .entry)) (now (bytes .exit)) ⌝ }
+{
+    bytes[at] = row.investor;
+    bytes[at + 1] = row.technical;
+    bytes[at + 2] = high(row.mirror);
+    bytes[at + 3] = low(row.mirror);
+    bytes[at + 4] = high(row.omnibus);
+    bytes[at + 5] = low(row.omnibus);
+    bytes[at + 6] = high(row.served);
+    bytes[at + 7] = low(row.served);
+}
+
 fn write_pairs(bytes: &mut [u8], table: PairTable)
     requires { ⌜ length (now bytes) ≡ rowsLength ⌝ }
     ensures { λ _. ⌜ Put pairsStart linksStart (bytesOfPairs table) (now (bytes .entry)) (now (bytes .exit)) ⌝ }
 {
-    let mut j: usize = 0;
-    while j < PAIR_BYTES {
-        bytes[PAIR_ROWS + j] = pair_byte(table.rows[j / PAIR_WIDTH], j % PAIR_WIDTH);
-        j += 1;
+    let mut i: usize = 0;
+    while i < PAIRS {
+        put_pair(bytes, PAIR_ROWS + i * PAIR_WIDTH, table.rows[i]);
+        i += 1;
     }
 }
 

@@ -203,17 +203,21 @@ fn put_back(back: Back) {
 
 // ---- the directory
 
-// An investor CSD with its technical issuer: their pair, and a default link.
+// An investor CSD with its technical issuer: their pair for one participant, and a default link.
 fn joined(
     directory: Directory,
     investor: u8,
     technical: u8,
     mirror: u16,
     omnibus: u16,
+    served: u16,
 ) -> Directory {
     let row = link(1, investor, technical, 1, NO_ACCOUNT);
     with_link(
-        with_pair(directory, pair(investor, technical, mirror, omnibus)),
+        with_pair(
+            directory,
+            pair(investor, technical, mirror, omnibus, served),
+        ),
         row,
     )
 }
@@ -226,7 +230,7 @@ fn worked() -> Directory {
     let first = with_account(with_account(listed, 0, 0), 0, 2);
     let second = with_account(with_account(with_account(first, 1, 1), 1, 4), 1, 0);
     let issued = with_link(second, link(0, 1, NO_CSD, 1, 3));
-    joined(issued, 0, 1, 1, 2)
+    joined(issued, 0, 1, 1, 2, 0)
 }
 
 // CSD 1 has another participant, 5; CSD 2, with the participant 6 and the mirror 7, is an investor in it by the omnibus 8; CSD 3, with the participant 9,
@@ -237,7 +241,7 @@ fn wider() -> Directory {
         csd(0, b'3'),
     );
     let third = with_account(with_account(with_account(csds, 2, 0), 2, 2), 1, 1);
-    joined(with_account(third, 3, 0), 2, 1, 7, 8)
+    joined(with_account(third, 3, 0), 2, 1, 7, 8, 6)
 }
 
 // ---- the calls that are shown

@@ -1,10 +1,10 @@
 -- 1 and 2 come before all other numbers: where one of them applies nothing changes, and where none does, the byte is known, its operands are there, and
 -- the call is the desk's.
-use Prim.Native.Nat.{ℕ, zero, suc, _≤_, _<_}
+use Prim.Native.Nat.{ℕ, zero, suc, _-_, _≤_, _<_}
 use native.Mathlib.Omega.{arith}
 use mathlib.Core.Path.{_≡_, refl, sym, ap, _∙_}
 use mathlib.Core.Logic.{_≢_, _⊎_, inl, inr}
-use mathlib.Core.Bool.{Bool, true, false, not}
+use mathlib.Core.Bool.{Bool, true, false, _&&_, _||_, not}
 use mathlib.Core.List.{List, [], _∷_}
 use mathlib.Core.Option.{Option, none, some}
 use lib.Dec.{eqb, leb, ltb}
@@ -15,7 +15,7 @@ use Rattle.rules.specs.declared.Answer.the-variants.{Refused}
 use Rattle.rules.specs.declared.Step.{Step}
 use Rattle.rules.specs.Tests.{Condition, _when_, firstOf}
 use Rattle.rules.specs.Calls.{Store, Call, settle, derive, outcome, lentSteps, deskConditions, desk}
-use Rattle.rules.specs.Stream.{widthOf, callOf}
+use Rattle.rules.specs.Stream.{widths, formerTag, widthOf, callOf}
 use Rattle.rules.proofs.Basics.{and-both, or-cases, eqb-is, leb-is, ltb-not, quiet}
 use Rattle.rules.proofs.Conditions.{first-before, first-after}
 use Rattle.wire.specs.declared.commands.Width.the-variants.{Bytes, NoCommand}
@@ -74,8 +74,17 @@ width-none (some v) e = let z : _≡_ {A = ℕ} 0 1 = cc in absurd (omega arith)
 
 -- ---- the bytes that an export knows
 
-pub entry-tag : (tag : ℕ) → isEntry tag ≡ true → (1 ≤ tag) × (tag ≤ 5)
-entry-tag tag e = let b = and-both (leb 1 tag) (leb tag 5) e in (leb-is 1 tag (b .0), leb-is tag 5 (b .1))
+-- 01 to 03, 05 or 0E
+pub entry-tag : (tag : ℕ) → isEntry tag ≡ true → {P : Type 0} → (1 ≤ tag → tag ≤ 3 → P) → (tag ≡ 5 → P) → (tag ≡ 14 → P) → P
+entry-tag tag e {P} low link pair = go (or-cases (leb 1 tag && leb tag 3) (eqb tag 5 || eqb tag 14) e)
+  where
+    above : (eqb tag 5 ≡ true) ⊎ (eqb tag 14 ≡ true) → P
+    above (inl k) = link (eqb-is tag 5 k)
+    above (inr k) = pair (eqb-is tag 14 k)
+
+    go : ((leb 1 tag && leb tag 3) ≡ true) ⊎ ((eqb tag 5 || eqb tag 14) ≡ true) → P
+    go (inl k) = let b = and-both (leb 1 tag) (leb tag 3) k in low (leb-is 1 tag (b .0)) (leb-is tag 3 (b .1))
+    go (inr k) = above (or-cases (eqb tag 5) (eqb tag 14) k)
 
 pub move-tag : (tag : ℕ) → isMove tag ≡ true → (6 ≤ tag) × (tag ≤ 9)
 move-tag tag e = let b = and-both (leb 6 tag) (leb tag 9) e in (leb-is 6 tag (b .0), leb-is tag 9 (b .1))
@@ -83,9 +92,13 @@ move-tag tag e = let b = and-both (leb 6 tag) (leb tag 9) e in (leb-is 6 tag (b 
 -- a known byte with as many operands as it asks for
 pub whole : (tag : ℕ) (o : List ℕ) → isEntry tag ≡ true → width tag ≤ length o → widthOf tag ≡ some (length (take (width tag) o))
 whole tag o e h =
-    let t = entry-tag tag e in
-    let w = width-is tag (λ z. omega arith) (omega arith) in
-    w ∙ ap some (sym (ap asked w) ∙ sym (length-take-le (width tag) o h))
+    entry-tag tag e
+    (λ l k. is (λ z. omega arith) (λ f. omega arith) (omega arith))
+    (λ k. is (λ z. omega arith) (λ f. omega arith) (omega arith))
+    (λ k. is (λ z. omega arith) (λ f. omega arith) (omega arith))
+  where
+    is : tag ≢ 0 → tag ≢ formerTag → tag - 1 < length widths → widthOf tag ≡ some (length (take (width tag) o))
+    is z f k = let w = width-is tag z f k in w ∙ ap some (sym (ap asked w) ∙ sym (length-take-le (width tag) o h))
 
 -- ---- the calls of two halves
 settlement-tag : (tag : ℕ) → isSettlement tag ≡ true → (tag ≡ 10) ⊎ (tag ≡ 12)

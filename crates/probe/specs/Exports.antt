@@ -23,7 +23,7 @@ use Rattle.probe.specs.Codes.{misfit, codeOf, unitsCode, centsCode}
 
 -- ---- what is handed in
 
--- five counts and 2,368 bytes stand for a directory
+-- five counts and 6,080 bytes stand for a directory
 abbrev pub fits : List ℕ → List ℕ → Bool
 fits counts rows = eqb (length counts) countsLength && eqb (length rows) rowsLength
 
@@ -31,9 +31,9 @@ fits counts rows = eqb (length counts) countsLength && eqb (length rows) rowsLen
 abbrev pub fitsSum : List ℕ → List ℕ → List ℤ → Bool
 fitsSum counts rows sum = fits counts rows && not (eqb (length sum) 0)
 
--- 01 to 05 enter a row
+-- 01 to 03, 05 and 0E enter a row
 abbrev pub isEntry : ℕ → Bool
-isEntry tag = leb 1 tag && leb tag 5
+isEntry tag = (leb 1 tag && leb tag 3) || (eqb tag 5 || eqb tag 14)
 
 -- 06 to 09 bring in, take out, pay in, pay out
 abbrev pub isMove : ℕ → Bool

@@ -14,6 +14,7 @@ use rules::Directory;
 use rules::Entered;
 use rules::Reply;
 use rules::SecurityTotal;
+use wire::commands::ENTER_PAIR;
 use wire::commands::Width;
 use wire::commands::width_of;
 use wire::operands;
@@ -70,7 +71,7 @@ fn accepted(answer: Answer) -> bool
 fn is_entry(tag: u8) -> bool
     ensures { λ r. ⌜ r ≡ isEntry tag ⌝ }
 {
-    (1 <= tag) & (tag <= 5)
+    ((1 <= tag) & (tag <= 3)) | ((tag == 5) | (tag == ENTER_PAIR))
 }
 
 fn is_move(tag: u8) -> bool
@@ -102,7 +103,7 @@ fn read_refusal(known: bool, tag: u8, bytes: &[u8]) -> u8
     0
 }
 
-// ---- 01 to 05
+// ---- 01 to 03, 05 and 0E
 
 fn entry(directory: Directory, tag: u8, operands: &[u8]) -> Entered
     requires { ⌜ (isEntry tag ≡ true) × (widthOf tag ≡ some (length (now operands))) ⌝ }
@@ -117,7 +118,7 @@ fn entry(directory: Directory, tag: u8, operands: &[u8]) -> Entered
     if tag == 3 {
         return desk::enter_account(directory, operands::decode_account(operands));
     }
-    if tag == 4 {
+    if tag == ENTER_PAIR {
         return desk::enter_pair(directory, operands::decode_pair(operands));
     }
     desk::enter_link(directory, operands::decode_link(operands))

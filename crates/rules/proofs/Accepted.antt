@@ -47,19 +47,19 @@ pub record MoveFacts (st : Store) (w : Way) (a s q : ℕ) : Type 0 where
   pub size : length (st .positions) ≡ positionCount
   pub holder : isKind (rowsOf (st .directory) .accounts) a 0 ≡ true
   pub other : ℕ
-  pub found : contra (ask (rowsOf (st .directory))) s (homeOf (rowsOf (st .directory) .accounts) a) ≡ some other
+  pub found : contra (ask (rowsOf (st .directory))) s (homeOf (rowsOf (st .directory) .accounts) a) a ≡ some other
   pub against : Contra (rowsOf (st .directory)) a other
   pub chain : stepsOf (moveChain (ask (rowsOf (st .directory))) w a s) ≡ moveSteps (rowsOf (st .directory)) w a other
   pub transfer : Transfer (rowsOf (st .directory)) (st .positions) (source w a other) (moveSteps (rowsOf (st .directory)) w a other) (target w a other) s q
 
 -- its chain is one step against the contra account
 move-chain : (r : Rows) (w : Way) (a s : ℕ) (xs : List Step) → moveChain (ask r) w a s ≡ chained xs
-    → (other : ℕ) × (contra (ask r) s (homeOf (r .accounts) a) ≡ some other) × (xs ≡ moveSteps r w a other)
+    → (other : ℕ) × (contra (ask r) s (homeOf (r .accounts) a) a ≡ some other) × (xs ≡ moveSteps r w a other)
 unfolding moveChain
-move-chain r w a s xs e = go (contra (ask r) s (homeOf (r .accounts) a)) refl e
+move-chain r w a s xs e = go (contra (ask r) s (homeOf (r .accounts) a) a) refl e
   where
-    go : (o : Option ℕ) → contra (ask r) s (homeOf (r .accounts) a) ≡ o → moveBy w (homeOf (r .accounts) a) a o ≡ chained xs
-        → (other : ℕ) × (contra (ask r) s (homeOf (r .accounts) a) ≡ some other) × (xs ≡ moveSteps r w a other)
+    go : (o : Option ℕ) → contra (ask r) s (homeOf (r .accounts) a) a ≡ o → moveBy w (homeOf (r .accounts) a) a o ≡ chained xs
+        → (other : ℕ) × (contra (ask r) s (homeOf (r .accounts) a) a ≡ some other) × (xs ≡ moveSteps r w a other)
     go none f c = impossible (cc)
     go (some u) f c = (u, f, sym (ap stepsOf c))
 
@@ -102,7 +102,7 @@ move-facts st w a s q free =
         quiet-both (chainConditions (moveChain (ask rows) w a s)) (20 when unitsShort (isKind (rows .accounts)) (st .positions) s q steps ∷ 22 when unitsBeyond (st .positions) s q steps ∷ [])
         (all .1 .1 .1 .1 .1)
 
-    one : (other : ℕ) × (contra (ask rows) s (homeOf (rows .accounts) a) ≡ some other) × (steps ≡ moveSteps rows w a other)
+    one : (other : ℕ) × (contra (ask rows) s (homeOf (rows .accounts) a) a ≡ some other) × (steps ≡ moveSteps rows w a other)
     one = move-chain rows w a s steps (quiet-chained (moveChain (ask rows) w a s) (parts .0))
 
     against : Contra rows a (one .0)

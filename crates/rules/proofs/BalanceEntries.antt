@@ -1,7 +1,8 @@
--- An accepted entry keeps the balance of positions: a new account's position is 0, and so are those of a new mirror and omnibus.
+-- An accepted entry keeps the balance of positions: a new account's position is 0, and so are those of a new mirror and omnibus; the two of a duo that
+-- other rows have are in balance already.
 use mathlib.Core.Path.{_≡_, refl, sym, ap, _∙_}
-use mathlib.Core.Logic.{_≢_, inl, inr}
-use mathlib.Core.Bool.{Bool, true, false}
+use mathlib.Core.Logic.{_≢_, _⊎_, inl, inr}
+use mathlib.Core.Bool.{Bool, true, false, not}
 use mathlib.Core.List.{List, [], _∷_, _++_, List·Memᴰ, List·Memᴰ·append-cases, List·Memᴰ·eq-of-singleton}
 use Prim.Native.Nat.{ℕ, _<_}
 use native.Mathlib.Omega.{arith}
@@ -12,16 +13,18 @@ use lib.Dec.{eqb}
 use lib.ListN.{length}
 use Rattle.rules.specs.Types.{Account, Pair}
 use Rattle.rules.specs.Tests.{any, isFull, firstOf}
-use Rattle.rules.specs.Directory.{Rows, securityLimit, accountLimit, noAccount, isKind, inBooks, uses, isPaired}
+use Rattle.rules.specs.Directory.{Rows, securityLimit, accountLimit, noAccount, isKind, inBooks, uses, sameDuo, usesApart, isApart}
 use Rattle.rules.specs.Lookups.{ask}
 use Rattle.rules.specs.Entries.{pairRefusal, accountConditions, pairConditions, Row, csdRow, securityRow, accountRow, pairRow, linkRow, rowConditions}
 use Rattle.rules.specs.Booking.{heldIn, floored, participants, sum}
 use Rattle.rules.specs.Demands.{withRow}
-use Rattle.rules.proofs.Basics.{or-none, or-false, eqb-false, leb-not, none-any, quiet}
+use Rattle.rules.proofs.Basics.{unnot-false, and-second, or-none, or-false, bool-cases, eqb-false, leb-not, any-some, any-none, none-any, quiet}
 use Rattle.rules.proofs.Sums.{pick, pick-zero, sum-same}
+use Rattle.rules.specs.Refusals.{SharesBoth}
+use Rattle.rules.proofs.Duos.{duo-says}
 use Rattle.rules.proofs.Facts.{HomePair, Facts}
 use Rattle.rules.proofs.Trail.{outer, plain, live}
-use Rattle.rules.proofs.Accounts.{no-kind, kind-before, books-before, books-row, not-plain, kind-small}
+use Rattle.rules.proofs.Accounts.{no-kind, kind-before, books-before, books-row, not-plain, kind-small, books-real}
 use Rattle.rules.proofs.Pairs.{home-pair}
 use Rattle.rules.proofs.NewPairs.{NewPair, accepted-pair}
 use Rattle.rules.proofs.Balance.{heldSum, InBalance}
@@ -98,25 +101,36 @@ module _ (r : Rows) (F : Facts r) (p : List ℤ) (B : InBalance r p) (x : Pair) 
   unfolding pairRefusal
   entered = accepted-pair r (r .pairs) x ok
 
-  -- a mirror or omnibus in no pair has position 0
-  fresh : (a s k : ℕ) → s < securityLimit → 0 < k → k < 3 → isKind (r .accounts) a k ≡ true → isPaired (r .pairs) a ≡ false → heldIn p s a ≡ pos 0
-  unfolding isPaired
+  -- a mirror or omnibus that no row has is at position 0
+  fresh : (a s k : ℕ) → s < securityLimit → 0 < k → k < 3 → isKind (r .accounts) a k ≡ true → any (uses a) (r .pairs) ≡ false → heldIn p s a ≡ pos 0
   fresh a s k hs n l e f =
-      let ha : a < accountLimit = kind-small r F a k e in
-      B .idle a s ha hs (or-false (plain (r .accounts) a) (any (uses a) (r .pairs)) (not-plain (r .accounts) a k n l e) (rw (eqb-false a noAccount (omega arith)) at f))
+      B .idle a s (kind-small r F a k e) hs (or-false (plain (r .accounts) a) (any (uses a) (r .pairs)) (not-plain (r .accounts) a k n l e) f)
 
   mirrors′ : (q : Pair) → List·Memᴰ q (r .pairs ++ (x ∷ [])) → q .omnibus ≢ noAccount → (s : ℕ) → s < securityLimit
       → heldIn p s (q .mirror) +ℤ heldIn p s (q .omnibus) ≡ pos 0
+  unfolding isApart
   mirrors′ q m ne s hs = elim (List·Memᴰ·append-cases (r .pairs) m) [ inl i ↦ B .mirrors q i ne s hs | inr i ↦ twins (List·Memᴰ·eq-of-singleton i) ]
     where
+      -- a row before has an account of the new one, and so both: they are in balance already
+      shared : x .omnibus ≢ noAccount → (a : ℕ) → a ≢ noAccount → isApart (r .pairs) a x ≡ false → any (uses a) (r .pairs) ≡ true
+          → heldIn p s (x .mirror) +ℤ heldIn p s (x .omnibus) ≡ pos 0
+      shared nx a na e f =
+          let q = any-some (uses a) (r .pairs) f in
+          let d : SharesBoth x (q .0) = duo-says x (q .0) (unnot-false (sameDuo x (q .0)) (and-second (uses a (q .0)) (not (sameDuo x (q .0)))
+          (any-none (usesApart a x) (r .pairs) (rw (eqb-false a noAccount na) at e) (q .0) (q .1)) (q .2))) in
+          rw (← (d .mirror), ← (d .omnibus)) (B .mirrors (q .0) (q .1) (λ g. nx (sym (d .omnibus) ∙ g)) s hs)
+
+      new : HomePair r x → x .omnibus ≢ noAccount → (any (uses (x .mirror)) (r .pairs) ≡ true) ⊎ (any (uses (x .mirror)) (r .pairs) ≡ false)
+          → (any (uses (x .omnibus)) (r .pairs) ≡ true) ⊎ (any (uses (x .omnibus)) (r .pairs) ≡ false) → heldIn p s (x .mirror) +ℤ heldIn p s (x .omnibus) ≡ pos 0
+      new h nx (inl f) g = shared nx (x .mirror) (books-real r F (x .mirror) (x .investor) (entered .facts .mirrorBooks)) (entered .mirrorTogether) f
+      new h nx (inr f) (inl g) = shared nx (x .omnibus) nx (entered .omnibusTogether) g
+      new h nx (inr f) (inr g) =
+          rw (fresh (x .mirror) s 2 hs (omega arith) (omega arith) (h .mirrorKind) f, fresh (x .omnibus) s 1 hs (omega arith) (omega arith) (h .omnibusKind) g)
+
       twins : q ≡ x → heldIn p s (q .mirror) +ℤ heldIn p s (q .omnibus) ≡ pos 0
       twins e =
-          let h : HomePair r x = home-pair r x (entered .facts) (λ f. ne (ap (λ (o : Pair). o .omnibus) e ∙ f)) in
-          rw (
-            e,
-            fresh (x .mirror) s 2 hs (omega arith) (omega arith) (h .mirrorKind) (entered .mirrorFree),
-            fresh (x .omnibus) s 1 hs (omega arith) (omega arith) (h .omnibusKind) (entered .omnibusFree),
-          )
+          let nx : x .omnibus ≢ noAccount = λ f. ne (ap (λ (o : Pair). o .omnibus) e ∙ f) in
+          rw e (new (home-pair r x (entered .facts) nx) nx (bool-cases (any (uses (x .mirror)) (r .pairs))) (bool-cases (any (uses (x .omnibus)) (r .pairs))))
 
   fewer : (ps : List Pair) (a : ℕ) → any (uses a) (ps ++ (x ∷ [])) ≡ false → any (uses a) ps ≡ false
   fewer [] a e = refl

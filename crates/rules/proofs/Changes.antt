@@ -27,7 +27,7 @@ module _ (st : Store) where
 
   move-changes : (w : Way) (a s q : ℕ) → firstOf (deskConditions (move w a s q) st) ≡ 0 → Changes (move w a s q) st (desk (move w a s q) st .store)
   move-changes w a s q free =
-      (ap (λ (o : Outcome). o .store .directory) left, (M .other, rw (M .found) at (contra-found rows (facts-of (move w a s q) st free) s (homeOf (rows .accounts) a)), units), ap (λ (o : Outcome). o .store .cash) left)
+      (ap (λ (o : Outcome). o .store .directory) left, (M .other, rw (M .found) at (contra-found rows (facts-of (move w a s q) st free) s (homeOf (rows .accounts) a) a), units), ap (λ (o : Outcome). o .store .cash) left)
     where
       left : desk (move w a s q) st ≡ outcome 0 (move w a s q) st
       left = desk-clear (move w a s q) st free

@@ -7,6 +7,8 @@ use Prim.Native.Nat.{ℕ, _≤_}
 use lib.ListN.{length}
 use Rattle.rules.specs.Types.{Pair, Link}
 use Rattle.rules.specs.Tests.{isRow}
+use Rattle.rules.specs.Booking.{floored}
+use Rattle.rules.specs.Refusals.{SharesBoth}
 use Rattle.rules.specs.Directory.{Rows, csdLimit, securityLimit, accountLimit, pairLimit, linkLimit, noCsd, noAccount, external, isKind, inBooks, uses}
 
 -- a pair whose technical issuer is in T2S
@@ -25,6 +27,8 @@ pub record PairFacts (r : Rows) (p : Pair) : Type 0 where
   pub technicalRow : isRow (r .csds) (p .technical) ≡ true
   pub another : p .investor ≢ p .technical
   pub mirrorBooks : inBooks (r .accounts) (p .mirror) (p .investor) ≡ true
+  pub servedBooks : inBooks (r .accounts) (p .served) (p .investor) ≡ true
+  pub servedKind : floored (isKind (r .accounts)) (p .served) ≡ true
   pub home : external (r .csds) (p .technical) ≡ false → HomePair r p
   pub away : external (r .csds) (p .technical) ≡ true → AwayPair r p
 
@@ -59,9 +63,9 @@ pub record Facts (r : Rows) : Type 0 where
   pub homeRow : (a c : ℕ) → inBooks (r .accounts) a c ≡ true → isRow (r .csds) c ≡ true
   pub homes : (a c : ℕ) → inBooks (r .accounts) a c ≡ true → external (r .csds) c ≡ false
   pub pairs : (p : Pair) → List·Memᴰ p (r .pairs) → PairFacts r p
-  -- one pair for two CSDs, and an account in one pair at most
-  pub onePair : (p q : Pair) → List·Memᴰ p (r .pairs) → List·Memᴰ q (r .pairs) → p .investor ≡ q .investor → p .technical ≡ q .technical → p ≡ q
-  pub apart : (p q : Pair) → List·Memᴰ p (r .pairs) → List·Memᴰ q (r .pairs) → (a : ℕ) → a ≢ noAccount → uses a p ≡ true → uses a q ≡ true → p ≡ q
+  -- one row for a triplet, and rows that have an account in common are of one duo
+  pub onePair : (p q : Pair) → List·Memᴰ p (r .pairs) → List·Memᴰ q (r .pairs) → p .investor ≡ q .investor → p .technical ≡ q .technical → p .served ≡ q .served → p ≡ q
+  pub oneDuo : (p q : Pair) → List·Memᴰ p (r .pairs) → List·Memᴰ q (r .pairs) → (a : ℕ) → a ≢ noAccount → uses a p ≡ true → uses a q ≡ true → SharesBoth p q
   pub links : (l : Link) → List·Memᴰ l (r .links) → LinkFacts r l
   -- beside an issuer link stands no other of its CSD for the security; one default link; one link to a technical issuer
   pub oneIssuer : (l k : Link) → List·Memᴰ l (r .links) → List·Memᴰ k (r .links) → l .kind ≡ 0 → l .security ≡ k .security → l .csd ≡ k .csd → l ≡ k

@@ -33,7 +33,7 @@ module _ (r r′ : Rows) (G : Grows r r′) where
   pairs-stay ps e =
       InOrder.milder (Entry.pairRefusal (r .csds) (r .accounts)) (Entry.pairRefusal (r′ .csds) (r′ .accounts))
       (λ b x h. let n = accepted-pair r b x h in
-      accepts-pair r′ b x (record { room = n .room; unjoined = n .unjoined; mirrorFree = n .mirrorFree; omnibusFree = n .omnibusFree; facts = pair-stays r r′ G x (n .facts) })) [] ps e
+      accepts-pair r′ b x (record { room = n .room; unserved = n .unserved; mirrorTogether = n .mirrorTogether; omnibusTogether = n .omnibusTogether; facts = pair-stays r r′ G x (n .facts) })) [] ps e
 
   links-stay : (ls : List Link) → linksSound (r .csds) (r .securities) (r .accounts) ls ≡ true → linksSound (r′ .csds) (r′ .securities) (r′ .accounts) ls ≡ true
   unfolding linksSound

@@ -21,6 +21,7 @@ pub mod FirstRow
 pub mod Identifiers
 pub mod Branches
 pub mod Examples
+pub mod Duos
 pub mod Facts
 pub mod Trail
 pub mod Accounts
@@ -73,6 +74,7 @@ pub mod EmptyStore
 pub mod Kept
 pub mod Lists
 pub mod SidesWritten
-pub mod Theorems
 pub mod Running
+pub mod Segregated
+pub mod Theorems
 pub mod Logs

@@ -143,8 +143,11 @@ log-keeps : (items : List Item) (st : Store) → Log items st → Kept items st
 log-keeps items st (begins e) = rw e empty-kept
 log-keeps items st (calls {items = older} {st = handed} c x left log e f) = rw (e, f) (call-keeps c older handed (log-keeps older handed log))
 
+pub run-kept : (cs : List Call) → Kept (run cs .items) (run cs .store)
+run-kept cs = run-keeps cs (record { items = []; store = emptyStore }) empty-kept
+
 pub lists-balance : (cs : List Call) → Balanced (run cs .items) (run cs .store)
-lists-balance cs = balanced (run cs .items) (run cs .store) (run-keeps cs (record { items = []; store = emptyStore }) empty-kept)
+lists-balance cs = balanced (run cs .items) (run cs .store) (run-kept cs)
 
 pub logs-balance : (items : List Item) (st : Store) → Log items st → Balanced items st
 logs-balance items st log = balanced items st (log-keeps items st log)

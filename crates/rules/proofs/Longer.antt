@@ -1,5 +1,6 @@
 -- A directory with one more row: the rows that were there keep their numbers, so what they say still holds.
 use mathlib.Core.Path.{_≡_, refl, sym, _∙_}
+use mathlib.Core.Logic.{inl, inr}
 use mathlib.Core.Bool.{true}
 use mathlib.Core.List.{List, [], _∷_, _++_, append-nil}
 use Prim.Native.Nat.{ℕ, zero, suc, _+_, _<_}
@@ -10,7 +11,8 @@ use Rattle.rules.specs.Tests.{isRow}
 use Rattle.rules.specs.Directory.{Rows, external, isKind, inBooks}
 use Rattle.rules.specs.Entries.{Row, csdRow, securityRow, accountRow, pairRow, linkRow}
 use Rattle.rules.specs.Demands.{withRow}
-use Rattle.rules.proofs.Basics.{ltb-is, ltb-true}
+use Rattle.rules.specs.Booking.{floored}
+use Rattle.rules.proofs.Basics.{or-left, or-right, or-cases, ltb-is, ltb-true}
 use Rattle.rules.proofs.Facts.{PairFacts, LinkFacts}
 use Rattle.rules.proofs.Accounts.{kind-row, books-row}
 use Rattle.rules.proofs.NewAccounts.{NewAccount}
@@ -47,6 +49,13 @@ kind-stays : {acc acc′ : List Account} → Begins acc acc′ → (a k : ℕ) �
 unfolding isKind
 kind-stays {acc} b a k e = rw (b .whole, at-same-place acc (b .more) a (kind-row acc a k e)) e
 
+floored-stays : {acc acc′ : List Account} → Begins acc acc′ → (a : ℕ) → floored (isKind acc) a ≡ true → floored (isKind acc′) a ≡ true
+floored-stays {acc} {acc′} b a e =
+    elim (or-cases (isKind acc a 0) (isKind acc a 1) e) [
+      | inl h ↦ or-left (isKind acc′ a 0) (isKind acc′ a 1) (kind-stays b a 0 h)
+      | inr h ↦ or-right (isKind acc′ a 0) (isKind acc′ a 1) (kind-stays b a 1 h)
+    ]
+
 books-stay : {acc acc′ : List Account} → Begins acc acc′ → (a c : ℕ) → inBooks acc a c ≡ true → inBooks acc′ a c ≡ true
 unfolding inBooks
 books-stay {acc} b a c e = rw (b .whole, at-same-place acc (b .more) a (books-row acc a c e)) e
@@ -77,6 +86,8 @@ module _ (r r′ : Rows) (G : Grows r r′) where
         technicalRow = row-stays (G .csds) (x .technical) (f .technicalRow);
         another = f .another;
         mirrorBooks = books-stay (G .accounts) (x .mirror) (x .investor) (f .mirrorBooks);
+        servedBooks = books-stay (G .accounts) (x .served) (x .investor) (f .servedBooks);
+        servedKind = floored-stays (G .accounts) (x .served) (f .servedKind);
         home = λ e. let h = f .home (sym type ∙ e) in
             record {
               mirrorKind = kind-stays (G .accounts) (x .mirror) 2 (h .mirrorKind);

@@ -27,18 +27,18 @@ use Rattle.rules.proofs.Pairs.{found-pair, pair-found, no-pair, pair-no
 use Rattle.rules.proofs.Links.{issuer-has, has-issuer, no-issuer, issuer-found, default-found, found-default, default-none}
 
 -- ---- the contra account
-module _ (r : Rows) (F : Facts r) (s c : ℕ) where
+module _ (r : Rows) (F : Facts r) (s c a : ℕ) where
   -- no issuer link, and no default link to an external CSD with its pair
   pub data Missing : Type 0 where
     link : NoIssuer (r .csds) (r .links) s c → ((l : Link) → DefaultOf (r .csds) (r .links) s c l → InT2S (r .csds) (l .technical)) → Missing
-    pair : NoIssuer (r .csds) (r .links) s c → (l : Link) → DefaultOf (r .csds) (r .links) s c l → External (r .csds) (l .technical) → NoPair (r .pairs) c (l .technical) → Missing
+    pair : NoIssuer (r .csds) (r .links) s c → (l : Link) → DefaultOf (r .csds) (r .links) s c l → External (r .csds) (l .technical) → NoPair (r .pairs) c (l .technical) a → Missing
 
   -- what the definitions find
   abbrev Found : Option ℕ → Type 0
   Found none = Missing
-  Found (some u) = ContraOf r s c u
+  Found (some u) = ContraOf r s c a u
 
-  pub contra-found : Found (contra (ask r) s c)
+  pub contra-found : Found (contra (ask r) s c a)
   unfolding contra issuance
   contra-found = go (hasIssuer (r .links) s c) refl
     where
@@ -46,39 +46,39 @@ module _ (r : Rows) (F : Facts r) (s c : ℕ) where
       unlinked e l i = clash (hasIssuer (r .links) s c) (issuer-has r s c l i) e
 
       paired : NoIssuer (r .csds) (r .links) s c → (l : Link) → DefaultOf (r .csds) (r .links) s c l → External (r .csds) (l .technical)
-          → (o : Option Pair) → pairOf (r .pairs) c (l .technical) ≡ o → Found (mirrorOf o)
-      paired n l d x none e = pair n l d x (no-pair (r .pairs) c (l .technical) e)
-      paired n l d x (some p) e = let f = found-pair (r .pairs) c (l .technical) p e in Refusals.interCsd l p n d x (f .0) (f .1) (f .2)
+          → (o : Option Pair) → pairOf (r .pairs) c (l .technical) a ≡ o → Found (mirrorOf o)
+      paired n l d x none e = pair n l d x (no-pair (r .pairs) c (l .technical) a e)
+      paired n l d x (some p) e = let f = found-pair (r .pairs) c (l .technical) a p e in Refusals.interCsd l p n d x (f .0) (f .1) (f .2) (f .3)
 
       outside : NoIssuer (r .csds) (r .links) s c → (l : Link) → defaultLink (r .links) s c ≡ some l → (b : Bool) → external (r .csds) (l .technical) ≡ b
-          → Found (cond b (mirrorOf (pairOf (r .pairs) c (l .technical))) none)
-      outside n l d true x = paired n l (found-default r s c l d) (says-external (r .csds) (l .technical) .holds x) (pairOf (r .pairs) c (l .technical)) refl
+          → Found (cond b (mirrorOf (pairOf (r .pairs) c (l .technical) a)) none)
+      outside n l d true x = paired n l (found-default r s c l d) (says-external (r .csds) (l .technical) .holds x) (pairOf (r .pairs) c (l .technical) a) refl
       outside n l d false x =
           link n (λ k h. let same : k ≡ l = cc (default-found r s c F k h) in rw same (denies (external (r .csds) (l .technical)) (says-external (r .csds) (l .technical)) x))
 
-      linked : NoIssuer (r .csds) (r .links) s c → (o : Option Link) → defaultLink (r .links) s c ≡ o → Found (interCsd (ask r) c (technicalOf o))
+      linked : NoIssuer (r .csds) (r .links) s c → (o : Option Link) → defaultLink (r .links) s c ≡ o → Found (interCsd (ask r) c a (technicalOf o))
       linked n none e = link n (λ l d. absurd (default-none r s c e l d))
       linked n (some l) e = outside n l e (external (r .csds) (l .technical)) refl
 
-      go : (b : Bool) → hasIssuer (r .links) s c ≡ b → Found (cond b (some (accountOf (issuerLink (r .links) s c))) (interCsd (ask r) c (technicalOf (defaultLink (r .links) s c))))
+      go : (b : Bool) → hasIssuer (r .links) s c ≡ b → Found (cond b (some (accountOf (issuerLink (r .links) s c))) (interCsd (ask r) c a (technicalOf (defaultLink (r .links) s c))))
       go true e = let l = has-issuer r s c e in rw (issuer-found r s c F (l .0) (l .1)) (Refusals.issuance (l .0) (l .1))
       go false e = linked (unlinked e) (defaultLink (r .links) s c) refl
 
-  pub contra-is : (u : ℕ) → ContraOf r s c u → contra (ask r) s c ≡ some u
+  pub contra-is : (u : ℕ) → ContraOf r s c a u → contra (ask r) s c a ≡ some u
   unfolding contra issuance
   contra-is u (Refusals.issuance l i) = rw (issuer-has r s c l i, issuer-found r s c F l i)
-  contra-is u (Refusals.interCsd l p n d x m e f) =
-      rw (no-issuer r s c n, default-found r s c F l d, says-external (r .csds) (l .technical) .tests x, pair-found r F c (l .technical) p m e f)
+  contra-is u (Refusals.interCsd l p n d x m e f g) =
+      rw (no-issuer r s c n, default-found r s c F l d, says-external (r .csds) (l .technical) .tests x, pair-found r F c (l .technical) a p m e f g)
 
-  pub contra-none : Missing → contra (ask r) s c ≡ none
+  pub contra-none : Missing → contra (ask r) s c a ≡ none
   unfolding contra issuance
   contra-none (link n h) = rw (no-issuer r s c n) (go (defaultLink (r .links) s c) refl)
     where
-      go : (o : Option Link) → defaultLink (r .links) s c ≡ o → interCsd (ask r) c (technicalOf o) ≡ none
+      go : (o : Option Link) → defaultLink (r .links) s c ≡ o → interCsd (ask r) c a (technicalOf o) ≡ none
       go none e = refl
       go (some l) e = rw (denied (external (r .csds) (l .technical)) (says-external (r .csds) (l .technical)) (h l (found-default r s c l e)))
   contra-none (pair n l d x h) =
-      rw (no-issuer r s c n, default-found r s c F l d, says-external (r .csds) (l .technical) .tests x, pair-none (r .pairs) c (l .technical) h)
+      rw (no-issuer r s c n, default-found r s c F l d, says-external (r .csds) (l .technical) .tests x, pair-none (r .pairs) c (l .technical) a h)
 
 -- ---- 06, 07
 module _ (r : Rows) (F : Facts r) (p : List ℤ) (w : Way) (a s q : ℕ) where
@@ -122,12 +122,12 @@ module _ (r : Rows) (F : Facts r) (p : List ℤ) (w : Way) (a s q : ℕ) where
   abbrev steps : ℕ → List Step
   steps u = moveStep w home a u ∷ []
 
-  module _ (u : ℕ) (e : contra (ask r) s home ≡ some u) where
-    same : (v : ℕ) → ContraOf r s home v → v ≡ u
-    same v k = let f = contra-is r F s home v k in cc
+  module _ (u : ℕ) (e : contra (ask r) s home a ≡ some u) where
+    same : (v : ℕ) → ContraOf r s home a v → v ≡ u
+    same v k = let f = contra-is r F s home a v k in cc
 
-    given : ContraOf r s home u
-    given = rw e at (contra-found r F s home)
+    given : ContraOf r s home a u
+    given = rw e at (contra-found r F s home a)
 
     short : Says (Refused 20) (unitsShort (isKind (r .accounts)) p s q (steps u))
     short = says-as (says-units-short (r .accounts) p s q (steps u)) (λ h. Refusals.moveShort u given (rw (List·Memᴰ·eq-of-singleton (h .1)) at (h .2))) from
@@ -142,13 +142,13 @@ module _ (r : Rows) (F : Facts r) (p : List ℤ) (w : Way) (a s q : ℕ) where
         from (Refusals.moveBeyond v k h) = (moveStep w home a u, List·Memᴰ·head refl, rw (same v k) at h)
 
     found : Refused 19 → ⊥
-    found (Refusals.noLink n h) = let f = contra-none r F s home (link n h) in impossible (cc)
-    found (Refusals.noPair n l d x h) = let f = contra-none r F s home (pair n l d x h) in impossible (cc)
+    found (Refusals.noLink n h) = let f = contra-none r F s home a (link n h) in impossible (cc)
+    found (Refusals.noPair n l d x h) = let f = contra-none r F s home a (pair n l d x h) in impossible (cc)
 
-  missing : contra (ask r) s home ≡ none → Refused 19
-  missing e = go (rw e at (contra-found r F s home))
+  missing : contra (ask r) s home a ≡ none → Refused 19
+  missing e = go (rw e at (contra-found r F s home a))
     where
-      go : Missing r F s home → Refused 19
+      go : Missing r F s home a → Refused 19
       go (link n h) = Refusals.noLink n h
       go (pair n l d x h) = Refusals.noPair n l d x h
 
@@ -157,7 +157,7 @@ module _ (r : Rows) (F : Facts r) (p : List ℤ) (w : Way) (a s q : ℕ) where
   booking x = 20 when unitsShort (isKind (r .accounts)) p s q (stepsOf x) ∷ 22 when unitsBeyond p s q (stepsOf x) ∷ []
 
   -- 19, or 20 and 22
-  by-contra : (o : Option ℕ) → contra (ask r) s home ≡ o
+  by-contra : (o : Option ℕ) → contra (ask r) s home a ≡ o
       → Renders Refused (chainConditions (moveBy w home a o) ++ booking (moveBy w home a o)) (19 ∷ 20 ∷ 21 ∷ 22 ∷ [])
   by-contra none e = stop (missing e)
   by-contra (some u) e = skip {m = 19} (found u e) (test (short u e) (λ e20. skip {m = 21} (λ x. elim x [ ]) (test (exceeds u e) (λ e22. end))))
@@ -168,7 +168,7 @@ module _ (r : Rows) (F : Facts r) (p : List ℤ) (w : Way) (a s q : ℕ) where
       skip {m = 5} (λ x. elim x [ ]) (test unknown (λ e6. test range (λ e7. skip {m = 8} (λ x. elim x [ ]) (skip {m = 9} (λ x. elim x [ ]) (test (holder e6) (λ e10.
       skip {m = 11} (λ x. elim x [ ]) (skip {m = 23} (λ x. elim x [ ]) (skip {m = 12} (λ x. elim x [ ]) (skip {m = 13} (λ x. elim x [ ]) (skip {m = 14} (λ x. elim x [ ])
       (skip {m = 15} (λ x. elim x [ ]) (skip {m = 16} (λ x. elim x [ ]) (skip {m = 17} (λ x. elim x [ ]) (skip {m = 18} (λ x. elim x [ ])
-      (by-contra (contra (ask r) s home) refl)))))))))))))))
+      (by-contra (contra (ask r) s home a) refl)))))))))))))))
 
 -- ---- 08, 09
 module _ (r : Rows) (c : List ℤ) (w : Way) (a m : ℕ) where

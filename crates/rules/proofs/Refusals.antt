@@ -26,7 +26,7 @@ use Rattle.rules.proofs.Conditions.{ranging, ranging-append, ranging-nu
 -- ---- the numbers of the calls' conditions
 move-number : (r : Rows) (w : Way) (a s n : ℕ) → moveChain (ask r) w a s ≡ unchained n → n ≡ 19
 unfolding moveChain
-move-number r w a s n e = go (contra (ask r) s (homeOf (r .accounts) a)) e
+move-number r w a s n e = go (contra (ask r) s (homeOf (r .accounts) a) a) e
   where
     go : (o : Option ℕ) → moveBy w (homeOf (r .accounts) a) a o ≡ unchained n → n ≡ 19
     go none f = cc

@@ -10,10 +10,11 @@ use lib.Dec.{eqb, ltb}
 use lib.ListN.{length, getElem?}
 use Rattle.rules.specs.Types.{Csd, Account, Pair, Link}
 use Rattle.rules.specs.Tests.{isRow, isFull}
-use Rattle.rules.specs.Directory.{noAccount, typeIs, kindIs, csdIs, external, isKind, inBooks, joins, uses, isJoined, isPaired, isLink, isIssuer, isInvestor, isLinkTo, hasLink, hasIssuer, hasInvestor, hasLinkTo}
+use Rattle.rules.specs.Directory.{noAccount, typeIs, kindIs, csdIs, external, isKind, inBooks, joins, serves, uses, sameDuo, usesApart, isServed, isApart, isLink, isIssuer, isInvestor, isLinkTo, hasLink, hasIssuer, hasInvestor, hasLinkTo}
 use Rattle.rules.specs.Relations.{Is, External, InT2S, IssuerOf, LinkTo}
-use Rattle.rules.specs.Refusals.{NoRow, Paired, asMirror, asOmnibus, Linked}
+use Rattle.rules.specs.Refusals.{NoRow, Uses, asMirror, asOmnibus, SharesBoth, Linked}
 use Rattle.rules.proofs.Basics.{impossible, clash, unnot-false, ltb-is}
+use Rattle.rules.proofs.Duos.{duo-says, duo-is}
 use Rattle.rules.proofs.Reflection.{Says, says-as, says-not, says-or, says-and, says-eq, says-not-and, says-ne, says-lt, says-le, says-any, denies, denied}
 
 -- ---- tables
@@ -99,26 +100,39 @@ pub says-other-account : (acc : List Account) (a c k : ℕ) (y : Account) → Is
 says-other-account acc a c k y e = says-not-and (inBooks acc a c) (isKind acc a k) (says-other-csd acc a c y e) (says-other-kind acc a k y e)
 
 -- ---- pairs
-pub says-paired : (ps : List Pair) (a : ℕ) → Says (Paired ps a) (isPaired ps a)
-unfolding isPaired
-says-paired ps a =
-    says-as (says-and (not (eqb a noAccount)) _ (says-ne a noAccount) (says-any (uses a) ps (λ p. says-or (eqb (p .mirror) a) (eqb (p .omnibus) a) (says-eq (p .mirror) a) (says-eq (p .omnibus) a))))
-    to from
+says-uses : (p : Pair) (a : ℕ) → Says ((p .mirror ≡ a) ⊎ (p .omnibus ≡ a)) (uses a p)
+says-uses p a = says-or (eqb (p .mirror) a) (eqb (p .omnibus) a) (says-eq (p .mirror) a) (says-eq (p .omnibus) a)
+
+says-duo : (x p : Pair) → Says (SharesBoth x p) (sameDuo x p)
+says-duo x p = record { holds = duo-says x p; tests = duo-is x p }
+
+-- a row that has the account, and is not of the duo of x
+pub says-apart : (ps : List Pair) (a : ℕ) (x : Pair) → Says ((p : Pair) × List·Memᴰ p ps × (Uses p a × (SharesBoth x p → ⊥))) (isApart ps a x)
+unfolding isApart
+says-apart ps a x =
+    says-as
+    (says-and (not (eqb a noAccount)) _ (says-ne a noAccount)
+    (says-any (usesApart a x) ps (λ p. says-and (uses a p) (not (sameDuo x p)) (says-uses p a) (says-not (sameDuo x p) (says-duo x p)))))
+    (λ h. (h .1 .0, h .1 .1, (has (h .1 .0) (h .0) (h .1 .2 .0), h .1 .2 .1)))
+    (λ h. (real (h .0) (h .2 .0), (h .0, h .1, (used (h .0) (h .2 .0), h .2 .1))))
   where
-    pick : (p : Pair) → List·Memᴰ p ps → a ≢ noAccount → (p .mirror ≡ a) ⊎ (p .omnibus ≡ a) → Paired ps a
-    pick p m ne (inl e) = asMirror p m e ne
-    pick p m ne (inr e) = asOmnibus p m e ne
+    has : (p : Pair) → a ≢ noAccount → (p .mirror ≡ a) ⊎ (p .omnibus ≡ a) → Uses p a
+    has p ne (inl e) = asMirror e ne
+    has p ne (inr e) = asOmnibus e ne
 
-    to : (a ≢ noAccount) × ((p : Pair) × List·Memᴰ p ps × ((p .mirror ≡ a) ⊎ (p .omnibus ≡ a))) → Paired ps a
-    to h = pick (h .1 .0) (h .1 .1) (h .0) (h .1 .2)
+    real : (p : Pair) → Uses p a → a ≢ noAccount
+    real p (asMirror e ne) = ne
+    real p (asOmnibus e ne) = ne
 
-    from : Paired ps a → (a ≢ noAccount) × ((p : Pair) × List·Memᴰ p ps × ((p .mirror ≡ a) ⊎ (p .omnibus ≡ a)))
-    from (asMirror p m e ne) = (ne, (p, m, inl e))
-    from (asOmnibus p m e ne) = (ne, (p, m, inr e))
+    used : (p : Pair) → Uses p a → (p .mirror ≡ a) ⊎ (p .omnibus ≡ a)
+    used p (asMirror e ne) = inl e
+    used p (asOmnibus e ne) = inr e
 
-pub says-joined : (ps : List Pair) (i t : ℕ) → Says ((p : Pair) × List·Memᴰ p ps × ((p .investor ≡ i) × (p .technical ≡ t))) (isJoined ps i t)
-unfolding isJoined
-says-joined ps i t = says-any (joins i t) ps (λ p. says-and (eqb (p .investor) i) (eqb (p .technical) t) (says-eq (p .investor) i) (says-eq (p .technical) t))
+pub says-served : (ps : List Pair) (i t a : ℕ) → Says ((p : Pair) × List·Memᴰ p ps × (((p .investor ≡ i) × (p .technical ≡ t)) × (p .served ≡ a))) (isServed ps i t a)
+unfolding isServed
+says-served ps i t a =
+    says-any (serves i t a) ps
+    (λ p. says-and (joins i t p) (eqb (p .served) a) (says-and (eqb (p .investor) i) (eqb (p .technical) t) (says-eq (p .investor) i) (says-eq (p .technical) t)) (says-eq (p .served) a))
 
 -- ---- links
 says-link : (s c : ℕ) (l : Link) → Says ((l .security ≡ s) × (l .csd ≡ c)) (isLink s c l)

@@ -2,7 +2,7 @@
 -- sound, so that the tests 3 and 4 find nothing and a call's core is the call.
 use mathlib.Core.Path.{_≡_, refl, _∙_}
 use mathlib.Core.Bool.{Bool, true, false, cond}
-use mathlib.Core.List.{List}
+use mathlib.Core.List.{List, [], _∷_}
 use Prim.Native.Nat.{ℕ, zero, suc}
 use lib.IntN.{ℤ}
 use lib.Dec.{eqb}
@@ -10,12 +10,13 @@ use lib.ListN.{length}
 use Rattle.rules.specs.Tests.{firstOf}
 use Rattle.rules.specs.Entries.{sound, Sized}
 use Rattle.rules.specs.Booking.{positionCount, cashCount, payment, paid, cents, lessCents, addCents}
-use Rattle.rules.specs.Calls.{Store, Call, enter, move, pay, settle, derive, delivering, receiving, misfit, coreConditions, chainFor, changed, outcome, core, desk, emptyStore}
+use Rattle.rules.specs.Calls.{Store, Call, enter, move, pay, settle, derive, delivering, receiving, misfit, coreConditions, deskConditions, chainFor, changed, outcome, core, desk, Run, next, runFrom, emptyStore}
 use Rattle.rules.proofs.Tables.{empty-sized, empty-sound, added-sized}
 use Rattle.rules.proofs.Growth.{keeps-sound}
 use Rattle.rules.proofs.Bookings.{booked-length}
 use Rattle.rules.proofs.Payments.{cents-length}
 use Rattle.rules.proofs.EmptyStore.{zeros-length}
+use Rattle.rules.proofs.Accepted.{core-free}
 
 pub record Ready (st : Store) : Type 0 where
   pub sized : Sized (st .directory)
@@ -69,6 +70,20 @@ core-ready c st h = go (firstOf (coreConditions c st)) refl
     go : (n : ℕ) → firstOf (coreConditions c st) ≡ n → Ready (outcome n c st .store)
     go zero e = changed-ready c st h e
     go (suc n) e = h
+
+-- and so does the call, with the tests 3 and 4
+desk-ready : (c : Call) (st : Store) → Ready st → Ready (desk c st .store)
+unfolding desk
+desk-ready c st h = go (firstOf (deskConditions c st)) refl
+  where
+    go : (n : ℕ) → firstOf (deskConditions c st) ≡ n → Ready (outcome n c st .store)
+    go zero e = changed-ready c st h (core-free c st e)
+    go (suc n) e = h
+
+-- so every store that a list of calls reaches is ready
+pub run-ready : (cs : List Call) (r : Run) → Ready (r .store) → Ready (runFrom cs r .store)
+run-ready [] r h = h
+run-ready (c ∷ cs) r h = run-ready cs (next c r) (desk-ready c (r .store) h)
 
 -- where the lists that a call is lent fit, its core is the call
 pub core-is-desk : (c : Call) (st : Store) → Ready st → misfit c st ≡ false → desk c st ≡ core c st

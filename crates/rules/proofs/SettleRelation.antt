@@ -48,41 +48,41 @@ module _ (r : Rows) (F : Facts r) (hs : Halves) where
   abbrev R : ℕ
   R = homeOf (r .accounts) (g .account)
 
-  chain-from : (s a b n : ℕ) → ChainRefused r s (homeOf (r .accounts) a) (homeOf (r .accounts) b) n → 14 ≤ n
+  chain-from : (s a b n : ℕ) → ChainRefused r s (homeOf (r .accounts) a) (homeOf (r .accounts) b) a b n → 14 ≤ n
   chain-from s a b n c =
       let x = chain-apart r F s a b n c in
       let l : x .number ≤ n = x .least in
       let k : 14 ≤ x .number = chain-number r s a b (x .number) (x .unchained) .0 in
       omega arith
 
-  chain-to : (s c d n : ℕ) → ChainRefused r s c d n → n ≤ 18
-  chain-to s c d n (Refusals.deliveringUnlinked u path w) = omega arith
-  chain-to s c d n (Refusals.receivingUnlinked u path w) = omega arith
-  chain-to s c d n (Refusals.deliveringTooLong u x) = omega arith
-  chain-to s c d n (Refusals.receivingTooLong u x) = omega arith
-  chain-to s c d n (Refusals.insideOutside u up down i y w v) = omega arith
-  chain-to s c d n (Refusals.outsideInside u up down x j w v) = omega arith
-  chain-to s c d n (Refusals.upUnpaired j up down w u) = omega arith
-  chain-to s c d n (Refusals.downUnpaired j up down w u) = omega arith
+  chain-to : (s c d a b n : ℕ) → ChainRefused r s c d a b n → n ≤ 18
+  chain-to s c d a b n (Refusals.deliveringUnlinked u path w) = omega arith
+  chain-to s c d a b n (Refusals.receivingUnlinked u path w) = omega arith
+  chain-to s c d a b n (Refusals.deliveringTooLong u x) = omega arith
+  chain-to s c d a b n (Refusals.receivingTooLong u x) = omega arith
+  chain-to s c d a b n (Refusals.insideOutside u up down i y w v) = omega arith
+  chain-to s c d a b n (Refusals.outsideInside u up down x j w v) = omega arith
+  chain-to s c d a b n (Refusals.upUnpaired j up down w u) = omega arith
+  chain-to s c d a b n (Refusals.downUnpaired j up down w u) = omega arith
 
   as-halves : (n : ℕ) → Early n → DeriveRefused r hs n → HalvesRefused r hs n
   as-halves n l (Refusals.halves x) = x
-  as-halves n l (Refusals.chain k m d c) = go l (chain-from _ _ _ n c) (chain-to _ _ _ n c)
+  as-halves n l (Refusals.chain k m d c) = go l (chain-from _ _ _ n c) (chain-to _ _ _ _ _ n c)
     where
       go : Early n → 14 ≤ n → n ≤ 18 → HalvesRefused r hs n
       go (inl a) lo hi = absurd (omega arith)
       go (inr a) lo hi = absurd (omega arith)
 
-  as-chain : (n : ℕ) → 14 ≤ n → n ≤ 22 → DeriveRefused r hs n → ChainRefused r (h .security) D R n
+  as-chain : (n : ℕ) → 14 ≤ n → n ≤ 22 → DeriveRefused r hs n → ChainRefused r (h .security) D R (h .account) (g .account) n
   as-chain n lo hi (Refusals.halves x) = go (halves-early r hs n x)
     where
-      go : Early n → ChainRefused r (h .security) D R n
+      go : Early n → ChainRefused r (h .security) D R (h .account) (g .account) n
       go (inl a) = absurd (omega arith)
       go (inr a) = absurd (omega arith)
   as-chain n lo hi (Refusals.chain k m d c) =
       let is = delivers-is hs k m d in
-      subst (λ (x : Half). ChainRefused r (h .security) D (homeOf (r .accounts) (x .account)) n) (is .1)
-      (subst (λ (x : Half). ChainRefused r (x .security) (homeOf (r .accounts) (x .account)) (homeOf (r .accounts) (m .account)) n) (is .0) c)
+      subst (λ (x : Half). ChainRefused r (h .security) D (homeOf (r .accounts) (x .account)) (h .account) (x .account) n) (is .1)
+      (subst (λ (x : Half). ChainRefused r (x .security) (homeOf (r .accounts) (x .account)) (homeOf (r .accounts) (m .account)) (x .account) (m .account) n) (is .0) c)
 
   abbrev called : Chain
   called = halvesChain (ask r) hs
@@ -151,7 +151,7 @@ module _ (r : Rows) (F : Facts r) (hs : Halves) where
 
   -- ---- 0B, 0D
   behind-derive : (n : ℕ) → 19 ≤ n → n ≤ 22 → DeriveRefused r hs n → ⊥
-  behind-derive n l k d = let m : n ≤ 18 = chain-to _ _ _ n (as-chain n (omega arith) k d) in omega arith
+  behind-derive n l k d = let m : n ≤ 18 = chain-to _ _ _ _ _ n (as-chain n (omega arith) k d) in omega arith
 
   pub derive-renders : Renders (DeriveRefused r hs) (deriveConditions (ask r) hs) entryPlaces
   derive-renders =

@@ -1,7 +1,7 @@
 -- What a sound directory gives: each row was accepted after those before it, and of two rows that clash the later would not have been.
 use mathlib.Core.Path.{_≡_, refl, sym}
 use mathlib.Core.Logic.{_≢_, _⊎_, inl, inr}
-use mathlib.Core.Bool.{true, false, true≢false}
+use mathlib.Core.Bool.{true, false, not, true≢false}
 use mathlib.Core.List.{List, [], _∷_, List·Memᴰ, List·Memᴰ·head, List·Memᴰ·tail}
 use Prim.Native.Nat.{ℕ, zero, suc, _≤_, _<_, min}
 use native.Mathlib.Omega.{arith}
@@ -10,11 +10,13 @@ use lib.ListN.{length, take, length-take}
 use Rattle.rules.specs.Types.{Account, Pair, Link, Directory}
 use Rattle.rules.specs.Tests.{isRow}
 use Rattle.rules.specs.Entries as Entry
-use Rattle.rules.specs.Directory.{Rows, rowsOf, csdLimit, securityLimit, accountLimit, pairLimit, linkLimit, noCsd, noAccount, external, inBooks, uses, joins, isJoined, isPaired, isLink, isIssuer, isInvestor, isLinkTo, hasLink, hasIssuer, hasInvestor, hasLinkTo}
+use Rattle.rules.specs.Directory.{Rows, rowsOf, csdLimit, securityLimit, accountLimit, pairLimit, linkLimit, noCsd, noAccount, external, inBooks, uses, serves, sameDuo, usesApart, isServed, isApart, isLink, isIssuer, isInvestor, isLinkTo, hasLink, hasIssuer, hasInvestor, hasLinkTo}
+use Rattle.rules.specs.Refusals.{SharesBoth}
 use Rattle.rules.specs.Entries.{accountsSound, pairsSound, linksSound, withinLimits, soundRows, sound}
-use Rattle.rules.proofs.Basics.{clash, and-both, or-cases, eqb-is, eqb-true, eqb-false, ltb-is, leb-is, any-true}
+use Rattle.rules.proofs.Basics.{clash, unnot-false, and-both, and-second, or-cases, eqb-is, eqb-true, eqb-false, ltb-is, leb-is, any-true, any-none}
 use Rattle.rules.proofs.Facts.{PairFacts, LinkFacts, Facts}
-use Rattle.rules.proofs.InOrder.{Judged, judged, one-row}
+use Rattle.rules.proofs.InOrder.{Judged, judged, of-two, one-row}
+use Rattle.rules.proofs.Duos.{serves-is, duo-says, duo-one, duo-turned}
 use Rattle.rules.proofs.NewAccounts.{NewAccount, accepted-account}
 use Rattle.rules.proofs.NewPairs.{NewPair, accepted-pair}
 use Rattle.rules.proofs.NewLinks.{NewLink, accepted-link}
@@ -43,21 +45,25 @@ home-of r S a c e =
 
 -- ---- pairs
 module _ (r : Rows) (b : List Pair) (p q : Pair) (m : List·Memᴰ q b) (n : NewPair r b p) where
-  twice-joined : p .investor ≡ q .investor → p .technical ≡ q .technical → ⊥
-  unfolding isJoined
-  twice-joined e f =
-      clash (isJoined b (p .investor) (p .technical))
-      (any-true (joins (p .investor) (p .technical)) b q m (rw (eqb-true (q .investor) (p .investor) (sym e), eqb-true (q .technical) (p .technical) (sym f))))
-      (n .unjoined)
+  twice-served : p .investor ≡ q .investor → p .technical ≡ q .technical → p .served ≡ q .served → ⊥
+  unfolding isServed
+  twice-served e f g =
+      clash (isServed b (p .investor) (p .technical) (p .served))
+      (any-true (serves (p .investor) (p .technical) (p .served)) b q m (serves-is (p .investor) (p .technical) (p .served) q (sym e) (sym f) (sym g)))
+      (n .unserved)
 
-  twice-paired : (a : ℕ) → a ≢ noAccount → uses a p ≡ true → uses a q ≡ true → ⊥
-  unfolding isPaired
-  twice-paired a ne u v =
-      let paired : isPaired b a ≡ true = rw (eqb-false a noAccount ne, any-true (uses a) b q m v) in
-      elim (or-cases (eqb (p .mirror) a) (eqb (p .omnibus) a) u) [
-        | inl e ↦ clash (isPaired b a) paired (rw (eqb-is (p .mirror) a e) at (n .mirrorFree))
-        | inr e ↦ clash (isPaired b a) paired (rw (eqb-is (p .omnibus) a e) at (n .omnibusFree))
-      ]
+  -- an account of the new row p that the row q has too is the new row's own in one of its places, and no row before has it apart
+  shared-duo : (a : ℕ) → a ≢ noAccount → uses a p ≡ true → uses a q ≡ true → SharesBoth p q
+  unfolding isApart
+  shared-duo a ne u v = duo-says p q (elim (or-cases (eqb (p .mirror) a) (eqb (p .omnibus) a) u) [
+    | inl e ↦ together (p .mirror) (eqb-is (p .mirror) a e) (n .mirrorTogether)
+    | inr e ↦ together (p .omnibus) (eqb-is (p .omnibus) a e) (n .omnibusTogether)
+  ])
+    where
+      together : (o : ℕ) → o ≡ a → isApart b o p ≡ false → sameDuo p q ≡ true
+      together o f e =
+          unnot-false (sameDuo p q)
+          (and-second (uses a q) (not (sameDuo p q)) (any-none (usesApart a p) b (rw (f, eqb-false a noAccount ne) at e) q m) v)
 
 -- ---- links
 module _ (r : Rows) (b : List Link) (l k : Link) (m : List·Memᴰ k b) (n : NewLink r b l) (s : k .security ≡ l .security) (c : k .csd ≡ l .csd) where
@@ -94,6 +100,13 @@ module _ (r : Rows) (S : SoundTables r) where
   unfolding pairsSound
   one-pair p q m n f g =
       one-row (Entry.pairRefusal (r .csds) (r .accounts)) [] (r .pairs) (S .pairs) p q m n (λ b k e. f b k (accepted-pair r b p e)) (λ b k e. g b k (accepted-pair r b q e))
+
+  one-duo : (p q : Pair) → List·Memᴰ p (r .pairs) → List·Memᴰ q (r .pairs)
+      → ((b : List Pair) → List·Memᴰ q b → NewPair r b p → SharesBoth p q) → ((b : List Pair) → List·Memᴰ p b → NewPair r b q → SharesBoth p q) → SharesBoth p q
+  unfolding pairsSound
+  one-duo p q m n f g =
+      of-two (Entry.pairRefusal (r .csds) (r .accounts)) (SharesBoth p q) [] (r .pairs) (S .pairs) p q m n (duo-one p q)
+      (λ b k e. f b k (accepted-pair r b p e)) (λ b k e. g b k (accepted-pair r b q e))
 
   one-link : (l k : Link) → List·Memᴰ l (r .links) → List·Memᴰ k (r .links)
       → ((b : List Link) → List·Memᴰ k b → NewLink r b l → ⊥) → ((b : List Link) → List·Memᴰ l b → NewLink r b k → ⊥) → l ≡ k
@@ -138,8 +151,8 @@ sound-gives d e =
       homeRow = λ a c h. home-of r S a c h .0;
       homes = λ a c h. home-of r S a c h .1;
       pairs = pair-facts r S;
-      onePair = λ p q m n f g. one-pair r S p q m n (λ b i j. twice-joined r b p q i j f g) (λ b i j. twice-joined r b q p i j (sym f) (sym g));
-      apart = λ p q m n a ne u v. one-pair r S p q m n (λ b i j. twice-paired r b p q i j a ne u v) (λ b i j. twice-paired r b q p i j a ne v u);
+      onePair = λ p q m n f g h. one-pair r S p q m n (λ b i j. twice-served r b p q i j f g h) (λ b i j. twice-served r b q p i j (sym f) (sym g) (sym h));
+      oneDuo = λ p q m n a ne u v. one-duo r S p q m n (λ b i j. shared-duo r b p q i j a ne u v) (λ b i j. duo-turned q p (shared-duo r b q p i j a ne v u));
       links = link-facts r S;
       oneIssuer = λ l k m n z s c. one-link r S l k m n (λ b i j. beside-issuer r b l k i j (sym s) (sym c) (inl z)) (λ b i j. beside-issuer r b k l i j s c (inr z));
       oneDefault = λ l k m n x y f g s c. one-link r S l k m n (λ b i j. twice-default r b l k i j (sym s) (sym c) x y f) (λ b i j. twice-default r b k l i j s c y x g);

@@ -1,6 +1,6 @@
 -- The customer's three demands, and what document 02 asks to be shown, proved of the definitions with no hypothesis left.
 use Rattle.rules.specs.Demands.{Demand1, Demand2, Demand3}
-use Rattle.rules.specs.Requests.{SideInTheHalf, Branches}
+use Rattle.rules.specs.Requests.{SideInTheHalf, Branches, Duos}
 use Rattle.rules.proofs.Refusals.{desk-refuses, core-refuses, units-numbered, cents-numbered}
 use Rattle.rules.proofs.Ruling.{ruled, totalled}
 use Rattle.rules.proofs.Derivations.{derives}
@@ -9,6 +9,7 @@ use Rattle.rules.proofs.Changes.{changes}
 use Rattle.rules.proofs.Lists.{lists-balance, logs-balance}
 use Rattle.rules.proofs.SidesWritten.{side-in-the-half}
 use Rattle.rules.proofs.Branches.{branches}
+use Rattle.rules.proofs.Segregated.{duos}
 
 pub demand1 : Demand1
 demand1 = record { desks = desk-refuses; cores = core-refuses; unitsTotals = units-numbered; cashTotals = cents-numbered }
@@ -24,3 +25,6 @@ ask1 = side-in-the-half
 
 pub ask2 : Branches
 ask2 = branches
+
+pub ask3 : Duos
+ask3 = duos

@@ -183,7 +183,7 @@ Changes (enter x) st st′ =
 Changes (move w a s q) st st′ =
     (st′ .directory ≡ st .directory)
     × ((other : ℕ)
-    × ContraOf (rowsOf (st .directory)) s (homeOf (rowsOf (st .directory) .accounts) a) other
+    × ContraOf (rowsOf (st .directory)) s (homeOf (rowsOf (st .directory) .accounts) a) a other
     × MovedUnits (moveStep w (homeOf (rowsOf (st .directory) .accounts) a) a other ∷ []) s q (st .positions) (st′ .positions))
     × (st′ .cash ≡ st .cash)
 Changes (pay w a m) st st′ =
@@ -250,7 +250,7 @@ unfoldable pub paidIn : List Item → ℤ
 paidIn [] = pos 0
 paidIn (i ∷ h) = paidIn h +ℤ cond (isAccepted (i .answer)) (pays (i .call)) (pos 0)
 
--- "A mirror and its omnibus are the two that one accepted pair entry names."
+-- "A mirror and its omnibus are the two that one accepted pair entry names." (01) They are a duo, however many entries name them (02)
 pub data PairEntered (p : Pair) : List Item → Type 0 where
   now : {i : Item} {h : List Item} → i .call ≡ enter (pairRow p) → isAccepted (i .answer) ≡ true → PairEntered p (i ∷ h)
   before : {i : Item} {h : List Item} → PairEntered p h → PairEntered p (i ∷ h)
@@ -300,7 +300,7 @@ EachChanged (i ∷ h) = Changed (i .call) (made h) i × EachChanged h
 pub record Balanced (items : List Item) (st : Store) : Type 0 where
   -- "in each CSD's books the positions in each security sum to zero"
   pub books : (c s : ℕ) → s < securityLimit → sum (λ a. inBooks (made items .accounts) a c) (heldIn (st .positions) s) accountLimit ≡ pos 0
-  -- "each mirror plus its omnibus is zero"
+  -- "each mirror plus its omnibus is zero" (01); "Mirror plus omnibus is zero for each duo." (02)
   pub mirrors : (p : Pair) (s : ℕ) → PairEntered p items → p .omnibus ≢ noAccount → s < securityLimit
       → heldIn (st .positions) s (p .mirror) +ℤ heldIn (st .positions) s (p .omnibus) ≡ pos 0
   -- "no participant or omnibus position and no cash balance is negative"

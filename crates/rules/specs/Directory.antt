@@ -23,9 +23,9 @@ securityLimit = 16
 abbrev pub accountLimit : ℕ
 accountLimit = 256
 
--- "Pair (64)"
+-- pairs: "The table holds 512 rows." (02)
 abbrev pub pairLimit : ℕ
-pairLimit = 64
+pairLimit = 512
 
 -- "Link (128)"
 abbrev pub linkLimit : ℕ
@@ -107,25 +107,37 @@ isKind acc a k = kindIs k (getElem? acc a)
 unfoldable pub inBooks : List Account → ℕ → ℕ → Bool
 inBooks acc a c = csdIs c (getElem? acc a)
 
--- the pair of an investor and its technical issuer
+-- a row of an investor and its technical issuer
 abbrev pub joins : ℕ → ℕ → Pair → Bool
 joins i t p = eqb (p .investor) i && eqb (p .technical) t
 
--- the account is one of the pair's
+-- the row of a triplet: investor, technical issuer, "the account that is served"
+abbrev pub serves : ℕ → ℕ → ℕ → Pair → Bool
+serves i t a p = joins i t p && eqb (p .served) a
+
+-- the account is one of the row's two; "A served account doesn't count as shared."
 abbrev pub uses : ℕ → Pair → Bool
 uses a p = eqb (p .mirror) a || eqb (p .omnibus) a
 
--- the first pair of an investor and a technical issuer
-unfoldable pub pairOf : List Pair → ℕ → ℕ → Option Pair
-pairOf ps i t = find (joins i t) ps
+-- two rows of "the same two CSDs" with the same two accounts
+abbrev pub sameDuo : Pair → Pair → Bool
+sameDuo x p = joins (x .investor) (x .technical) p && (eqb (p .mirror) (x .mirror) && eqb (p .omnibus) (x .omnibus))
 
--- "One pair per investor and technical issuer"
-unfoldable pub isJoined : List Pair → ℕ → ℕ → Bool
-isJoined ps i t = any (joins i t) ps
+-- the account is one of the row's two, and the row is not of the duo of x
+abbrev pub usesApart : ℕ → Pair → Pair → Bool
+usesApart a x p = uses a p && not (sameDuo x p)
 
--- "an account is in one pair at most"; of hex FFFF "Neither ever counts as already entered or shared"
-unfoldable pub isPaired : List Pair → ℕ → Bool
-isPaired ps a = not (eqb a noAccount) && any (uses a) ps
+-- the first row of a triplet
+unfoldable pub pairOf : List Pair → ℕ → ℕ → ℕ → Option Pair
+pairOf ps i t a = find (serves i t a) ps
+
+-- 9: "the same triplet"
+unfoldable pub isServed : List Pair → ℕ → ℕ → ℕ → Bool
+isServed ps i t a = any (serves i t a) ps
+
+-- 9: the account is shared with a row that is not of the duo of x; of hex FFFF "Neither ever counts as already entered or shared"
+unfoldable pub isApart : List Pair → ℕ → Pair → Bool
+isApart ps a x = not (eqb a noAccount) && any (usesApart a x) ps
 
 -- a link of the CSD c for the security s
 abbrev pub isLink : ℕ → ℕ → Link → Bool

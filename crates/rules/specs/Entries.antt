@@ -59,7 +59,7 @@ besideAccounts cs acc = ask (record { csds = cs; securities = []; accounts = acc
 unfoldable pub accountRefusal : List Csd → List Account → Account → ℕ
 accountRefusal cs acc x = firstOf (accountConditions (besideAccounts cs acc) x)
 
--- ---- 04: a pair
+-- ---- 0E: a pair
 
 -- the second account names no row, and is not the hex FFFF that an external technical issuer takes
 abbrev pub secondUnknown : Lookups → Pair → Bool
@@ -72,17 +72,40 @@ wrongAccounts k x =
     (not (isAccountOf k (x .mirror) (x .investor) 3))
     (not (isAccountOf k (x .mirror) (x .investor) 2) || not (isAccountOf k (x .omnibus) (x .technical) 1))
 
+-- the account served is not "a participant or omnibus account of the investor CSD"
+abbrev pub wrongServed : Lookups → Pair → Bool
+wrongServed k x = not (isAccountOf k (x .served) (x .investor) 0 || isAccountOf k (x .served) (x .investor) 1)
+
 -- a number of the pair "names no row"
 abbrev pub pairUnknown : Lookups → Pair → Bool
-pairUnknown k x = not (k .csd (x .investor)) || (not (k .csd (x .technical)) || (not (k .account (x .mirror)) || secondUnknown k x))
+pairUnknown k x =
+    not (k .csd (x .investor))
+    || (not (k .csd (x .technical)) || (not (k .account (x .mirror)) || (secondUnknown k x || not (k .account (x .served)))))
+
+-- a row that may share the first account of x: "both accounts", "with an external issuer the inter-CSD account alone", so that its second is FFFF
+abbrev pub sharing : Lookups → Pair → Pair
+sharing k x =
+    record {
+      investor = x .investor;
+      technical = x .technical;
+      mirror = x .mirror;
+      omnibus = cond (k .outside (x .technical)) noAccount (x .omnibus);
+      served = x .served;
+    }
+
+-- "9 the same triplet or a sharing not allowed": "Rows of the same two CSDs may share both accounts or neither, those with an external issuer the
+-- inter-CSD account alone; other rows share none."
+abbrev pub pairEntered : Lookups → Pair → Bool
+pairEntered k x =
+    k .served (x .investor) (x .technical) (x .served) || (k .apart (x .mirror) (sharing k x) || k .apart (x .omnibus) x)
 
 -- 5, 6, 9, 10 and 11 of a pair
 abbrev pub pairConditions : Lookups → Pair → List Condition
 pairConditions k x =
     5 when k .pairsFull
     ∷ 6 when pairUnknown k x
-    ∷ 9 when (k .joined (x .investor) (x .technical) || (k .paired (x .mirror) || k .paired (x .omnibus)))
-    ∷ 10 when wrongAccounts k x
+    ∷ 9 when pairEntered k x
+    ∷ 10 when (wrongAccounts k x || wrongServed k x)
     ∷ 11 when (eqb (x .investor) (x .technical) || (k .outside (x .technical) && not (eqb (x .omnibus) noAccount)))
     ∷ []
 
@@ -220,7 +243,7 @@ blankAccount = record { csd = 0; kind = 0 }
 
 -- a pair never entered
 abbrev pub blankPair : Pair
-blankPair = record { investor = 0; technical = 0; mirror = 0; omnibus = 0 }
+blankPair = record { investor = 0; technical = 0; mirror = 0; omnibus = 0; served = 0 }
 
 -- a link never entered
 abbrev pub blankLink : Link

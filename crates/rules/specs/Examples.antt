@@ -1,10 +1,10 @@
 -- 'Chains by example' of document 01 as one table, and its sample run: what the definitions are to give.
 use Prim.Native.Nat.{ℕ, _+_, _*_}
 use mathlib.Core.Path.{_≡_}
-use mathlib.Core.Bool.{Bool, true, false, cond}
+use mathlib.Core.Bool.{Bool, true, false, _&&_, cond}
 use mathlib.Core.List.{List, [], _∷_, _++_, map}
 use lib.IntN.{ℤ, pos, negsuc}
-use lib.Dec.{leb}
+use lib.Dec.{eqb, leb}
 use lib.ListN.{length}
 use Rattle.rules.specs.Types.{Csd, Account, Pair, Link, Step, Half, Answer, Accepted, Booked}
 use Rattle.rules.specs.Identifiers.{isinSum, isinChecks, isinSumLeft}
@@ -55,7 +55,7 @@ pub data Drawn : Type 0 where
 
 infix 70 _⟶_
 infix 70 _⇢_
--- accounts 3c and 3c + 1 are participants of the CSD c, 3c + 2 is its issuance account; those of the pairs follow from 18 on
+-- accounts 3c and 3c + 1 are participants of the CSD c, 3c + 2 is its issuance account; those of the links follow from 18 on
 abbrev ownAccounts : ℕ → List Account
 ownAccounts c = record { csd = c; kind = 0 } ∷ record { csd = c; kind = 0 } ∷ record { csd = c; kind = 4 } ∷ []
 
@@ -70,16 +70,21 @@ accountsFor (issuer c ∷ ds) = accountsFor ds
 accountsFor ((c ⟶ n) ∷ ds) = pairAccounts c n ++ accountsFor ds
 accountsFor ((c ⇢ n) ∷ ds) = pairAccounts c n ++ accountsFor ds
 
--- the pair whose accounts start at a
-abbrev pairFor : ℕ → ℕ → ℕ → Pair
-pairFor a c n = record { investor = c; technical = n; mirror = a; omnibus = cond (isOutside n) noAccount (a + 1) }
+-- the participant and omnibus accounts of the CSD c among these, which are numbered from n on
+abbrev servedOf : ℕ → ℕ → List Account → List ℕ
+servedOf c n [] = []
+servedOf c n (x ∷ xs) = cond (eqb (x .csd) c && leb (x .kind) 1) (n ∷ servedOf c (n + 1) xs) (servedOf c (n + 1) xs)
 
--- the pairs of all links drawn
-abbrev pairsFor : ℕ → List Drawn → List Pair
-pairsFor a [] = []
-pairsFor a (issuer c ∷ ds) = pairsFor a ds
-pairsFor a ((c ⟶ n) ∷ ds) = pairFor a c n ∷ pairsFor (a + length (pairAccounts c n)) ds
-pairsFor a ((c ⇢ n) ∷ ds) = pairFor a c n ∷ pairsFor (a + length (pairAccounts c n)) ds
+-- the row that serves b by the accounts that start at a
+abbrev pairFor : ℕ → ℕ → ℕ → ℕ → Pair
+pairFor a c n b = record { investor = c; technical = n; mirror = a; omnibus = cond (isOutside n) noAccount (a + 1); served = b }
+
+-- the rows of all links drawn: those of one link share its two accounts, and serve every account of its CSD that may be served
+abbrev pairsFor : List Account → ℕ → List Drawn → List Pair
+pairsFor acc a [] = []
+pairsFor acc a (issuer c ∷ ds) = pairsFor acc a ds
+pairsFor acc a ((c ⟶ n) ∷ ds) = map (pairFor a c n) (servedOf c 0 acc) ++ pairsFor acc (a + length (pairAccounts c n)) ds
+pairsFor acc a ((c ⇢ n) ∷ ds) = map (pairFor a c n) (servedOf c 0 acc) ++ pairsFor acc (a + length (pairAccounts c n)) ds
 
 -- a link drawn, for security 0
 abbrev linkFor : Drawn → Link
@@ -91,6 +96,10 @@ linkFor (c ⇢ n) = record { security = 0; kind = 1; csd = c; technical = n; fla
 abbrev pub csdAs : ℕ → List ℕ → Csd
 csdAs t name = record { external = t; bic = name }
 
+-- all accounts of an example
+abbrev accountsOf : List Drawn → List Account
+accountsOf ds = ownAccounts A ++ ownAccounts B ++ ownAccounts C ++ ownAccounts D ++ ownAccounts I ++ ownAccounts J ++ accountsFor ds
+
 -- the rows of an example's directory
 abbrev pub drawn : List Drawn → Rows
 drawn ds =
@@ -98,8 +107,8 @@ drawn ds =
       csds = csdAs 0 (bytes "AAAAXX00XXX") ∷ csdAs 0 (bytes "BBBBXX00XXX") ∷ csdAs 0 (bytes "CCCCXX00XXX") ∷ csdAs 0 (bytes "DDDDXX00XXX")
           ∷ csdAs 0 (bytes "IIIIXX00XXX") ∷ csdAs 0 (bytes "JJJJXX00XXX") ∷ csdAs 1 (bytes "XXXXXX00XXX") ∷ csdAs 1 (bytes "YYYYXX00XXX") ∷ [];
       securities = record { isin = bytes "XS0000000009" } ∷ [];
-      accounts = ownAccounts A ++ ownAccounts B ++ ownAccounts C ++ ownAccounts D ++ ownAccounts I ++ ownAccounts J ++ accountsFor ds;
-      pairs = pairsFor 18 ds;
+      accounts = accountsOf ds;
+      pairs = pairsFor (accountsOf ds) 18 ds;
       links = map linkFor ds;
     }
 
@@ -157,7 +166,8 @@ abbrev half : ℕ → ℕ → Half
 half a c = record { account = a; counterpart = c; security = 0; quantity = 40; amount = 0 }
 
 -- "CSDs 0, 1 in T2S ..; XS0000000009; accounts 0 participant and 1 mirror of CSD 0, 2 omnibus, 3 issuance, 4 participant of CSD 1; pair
--- 0, 1, 1, 2; issuer link CSD 1; default link 0 to 1; 100 brought in on account 4; 40 settled from 4 to 0 for amount 0"
+-- 0, 1, 1, 2; issuer link CSD 1; default link 0 to 1; 100 brought in on account 4; 40 settled from 4 to 0 for amount 0" (01); "01's example enters
+-- its pair by 0E with account 0 served" (02)
 unfoldable pub sampleCalls : List Call
 sampleCalls =
     enter (csdRow (csdAs 0 (bytes "AAAAXX00XXX")))
@@ -168,7 +178,7 @@ sampleCalls =
     ∷ enter (accountRow (record { csd = 1; kind = 1 }))
     ∷ enter (accountRow (record { csd = 1; kind = 4 }))
     ∷ enter (accountRow (record { csd = 1; kind = 0 }))
-    ∷ enter (pairRow (record { investor = 0; technical = 1; mirror = 1; omnibus = 2 }))
+    ∷ enter (pairRow (record { investor = 0; technical = 1; mirror = 1; omnibus = 2; served = 0 }))
     ∷ enter (linkRow (record { security = 0; kind = 0; csd = 1; technical = noCsd; flag = 1; account = 3 }))
     ∷ enter (linkRow (record { security = 0; kind = 1; csd = 0; technical = 1; flag = 1; account = noAccount }))
     ∷ move incoming 4 0 100
@@ -199,7 +209,7 @@ sampleStart =
     ++ (3 ∷ 1 ∷ 1 ∷ [])
     ++ (3 ∷ 1 ∷ 4 ∷ [])
     ++ (3 ∷ 1 ∷ 0 ∷ [])
-    ++ (4 ∷ 0 ∷ 1 ∷ 0 ∷ 1 ∷ 0 ∷ 2 ∷ [])
+    ++ (14 ∷ 0 ∷ 1 ∷ 0 ∷ 1 ∷ 0 ∷ 2 ∷ 0 ∷ 0 ∷ [])
     ++ (5 ∷ 0 ∷ 0 ∷ 1 ∷ 0xff ∷ 1 ∷ 0 ∷ 3 ∷ [])
     ++ (5 ∷ 0 ∷ 1 ∷ 0 ∷ 1 ∷ 1 ∷ 0xff ∷ 0xff ∷ [])
     ++ ((6 ∷ 0 ∷ 4 ∷ 0 ∷ []) ++ quantity 100)

@@ -7,7 +7,7 @@ use mathlib.Core.Option.{Option, none, some}
 use lib.ListN.{getElem?}
 use Rattle.rules.specs.Types.{Account, Pair, Link}
 use Rattle.rules.specs.Tests.{isRow, isFull}
-use Rattle.rules.specs.Directory.{Rows, accountLimit, pairLimit, linkLimit, noCsd, noAccount, external, isKind, inBooks, pairOf, isJoined, isPaired, hasLink, hasIssuer, hasInvestor, hasLinkTo, issuerLink, defaultLink}
+use Rattle.rules.specs.Directory.{Rows, accountLimit, pairLimit, linkLimit, noCsd, noAccount, external, isKind, inBooks, pairOf, isServed, isApart, hasLink, hasIssuer, hasInvestor, hasLinkTo, issuerLink, defaultLink}
 
 -- One question each.
 pub record Lookups : Type 0 where
@@ -27,11 +27,11 @@ pub record Lookups : Type 0 where
   pub books : ℕ → ℕ → Bool
   -- is it of this kind
   pub kind : ℕ → ℕ → Bool
-  -- is it in a pair
-  pub paired : ℕ → Bool
-  -- the pair of an investor and its technical issuer, and whether they have one
-  pub pair : ℕ → ℕ → Option Pair
-  pub joined : ℕ → ℕ → Bool
+  -- is it in a pair row that is not of the duo of this one
+  pub apart : ℕ → Pair → Bool
+  -- the pair row of an investor, its technical issuer and the account served, and whether there is one
+  pub pair : ℕ → ℕ → ℕ → Option Pair
+  pub served : ℕ → ℕ → ℕ → Bool
   -- for a security: does the CSD have a link, an issuer link, an investor link
   pub anyLink : ℕ → ℕ → Bool
   pub issuer : ℕ → ℕ → Bool
@@ -84,9 +84,9 @@ ask r =
       home = homeOf (r .accounts);
       books = inBooks (r .accounts);
       kind = isKind (r .accounts);
-      paired = isPaired (r .pairs);
+      apart = isApart (r .pairs);
       pair = pairOf (r .pairs);
-      joined = isJoined (r .pairs);
+      served = isServed (r .pairs);
       anyLink = hasLink (r .links);
       issuer = hasIssuer (r .links);
       investor = hasInvestor (r .links);

@@ -107,17 +107,32 @@ pub data AccountRefused (cs : List Csd) (acc : List Account) (x : Account) : ℕ
   noKind : 4 < x .kind → AccountRefused cs acc x 7
   homeExternal : External cs (x .csd) → AccountRefused cs acc x 10
 
--- the account is in a pair; of hex FFFF "Neither ever counts as already entered or shared"
-pub data Paired (ps : List Pair) (a : ℕ) : Type 0 where
-  asMirror : (p : Pair) → List·Memᴰ p ps → p .mirror ≡ a → a ≢ noAccount → Paired ps a
-  asOmnibus : (p : Pair) → List·Memᴰ p ps → p .omnibus ≡ a → a ≢ noAccount → Paired ps a
+-- the account is one of the row's two; of hex FFFF "Neither ever counts as already entered or shared", and "A served account doesn't count as
+-- shared."
+pub data Uses (p : Pair) (a : ℕ) : Type 0 where
+  asMirror : p .mirror ≡ a → a ≢ noAccount → Uses p a
+  asOmnibus : p .omnibus ≡ a → a ≢ noAccount → Uses p a
 
--- no pair of an investor and a technical issuer is entered
-abbrev pub NoPair : List Pair → ℕ → ℕ → Type 0
-NoPair ps i t = (p : Pair) → List·Memᴰ p ps → p .investor ≡ i → p .technical ≢ t
+-- "Rows of the same two CSDs may share both accounts"
+pub record SharesBoth (x p : Pair) : Type 0 where
+  pub investor : p .investor ≡ x .investor
+  pub technical : p .technical ≡ x .technical
+  pub mirror : p .mirror ≡ x .mirror
+  pub omnibus : p .omnibus ≡ x .omnibus
 
--- 04: a pair. "Technical issuer in T2S: a mirror in the investor's books, an omnibus in the other's. External: an inter-CSD account, and
--- hex FFFF for none."
+-- "those with an external issuer the inter-CSD account alone"
+pub record SharesInterCsd (x p : Pair) : Type 0 where
+  pub investor : p .investor ≡ x .investor
+  pub technical : p .technical ≡ x .technical
+  pub interCsd : p .mirror ≡ x .mirror
+  pub alone : p .omnibus ≡ noAccount
+
+-- "no row for the triplet": investor, technical issuer, account served
+abbrev pub NoPair : List Pair → ℕ → ℕ → ℕ → Type 0
+NoPair ps i t a = (p : Pair) → List·Memᴰ p ps → p .investor ≡ i → p .technical ≡ t → p .served ≢ a
+
+-- 0E: a pair. "Technical issuer in T2S: a mirror in the investor's books, an omnibus in the other's. External: an inter-CSD account, and
+-- hex FFFF for none." (01) It serves "a participant or omnibus account of the investor CSD" (02).
 pub data PairRefused (cs : List Csd) (acc : List Account) (ps : List Pair) (x : Pair) : ℕ → Type 0 where
   pairsFull : pairLimit ≤ length ps → PairRefused cs acc ps x 5
   investorUnknown : NoRow cs (x .investor) → PairRefused cs acc ps x 6
@@ -125,14 +140,19 @@ pub data PairRefused (cs : List Csd) (acc : List Account) (ps : List Pair) (x : 
   firstUnknown : NoRow acc (x .mirror) → PairRefused cs acc ps x 6
   secondUnknown : NoRow acc (x .omnibus) → x .omnibus ≢ noAccount → PairRefused cs acc ps x 6
   secondDue : NoRow acc (x .omnibus) → InT2S cs (x .technical) → PairRefused cs acc ps x 6
-  pairEntered : (p : Pair) → List·Memᴰ p ps → p .investor ≡ x .investor → p .technical ≡ x .technical → PairRefused cs acc ps x 9
-  firstPaired : Paired ps (x .mirror) → PairRefused cs acc ps x 9
-  secondPaired : Paired ps (x .omnibus) → PairRefused cs acc ps x 9
+  servedUnknown : NoRow acc (x .served) → PairRefused cs acc ps x 6
+  -- "9 the same triplet or a sharing not allowed"
+  tripletEntered : (p : Pair) → List·Memᴰ p ps → p .investor ≡ x .investor → p .technical ≡ x .technical → p .served ≡ x .served → PairRefused cs acc ps x 9
+  mirrorShared : InT2S cs (x .technical) → (p : Pair) → List·Memᴰ p ps → Uses p (x .mirror) → (SharesBoth x p → ⊥) → PairRefused cs acc ps x 9
+  interCsdShared : External cs (x .technical) → (p : Pair) → List·Memᴰ p ps → Uses p (x .mirror) → (SharesInterCsd x p → ⊥) → PairRefused cs acc ps x 9
+  omnibusShared : (p : Pair) → List·Memᴰ p ps → Uses p (x .omnibus) → (SharesBoth x p → ⊥) → PairRefused cs acc ps x 9
   firstOfOther : (y : Account) → Is acc (x .mirror) y → y .csd ≢ x .investor → PairRefused cs acc ps x 10
   noInterCsd : External cs (x .technical) → (y : Account) → Is acc (x .mirror) y → y .kind ≢ 3 → PairRefused cs acc ps x 10
   noMirror : InT2S cs (x .technical) → (y : Account) → Is acc (x .mirror) y → y .kind ≢ 2 → PairRefused cs acc ps x 10
   secondOfOther : InT2S cs (x .technical) → (y : Account) → Is acc (x .omnibus) y → y .csd ≢ x .technical → PairRefused cs acc ps x 10
   noOmnibus : InT2S cs (x .technical) → (y : Account) → Is acc (x .omnibus) y → y .kind ≢ 1 → PairRefused cs acc ps x 10
+  servedOfOther : (y : Account) → Is acc (x .served) y → y .csd ≢ x .investor → PairRefused cs acc ps x 10
+  neitherServed : (y : Account) → Is acc (x .served) y → y .kind ≢ 0 → y .kind ≢ 1 → PairRefused cs acc ps x 10
   sameCsd : x .investor ≡ x .technical → PairRefused cs acc ps x 11
   secondNotDue : External cs (x .technical) → x .omnibus ≢ noAccount → PairRefused cs acc ps x 11
 
@@ -210,12 +230,12 @@ pub data Misfits (st : Store) : Call → Type 0 where
 
 -- ---- 06 to 09
 
--- the account that a bring-in debits: "in its CSD, the issuance account of its issuer link, else the inter-CSD account of its default link
--- to an external CSD"
-pub data ContraOf (r : Rows) (s c : ℕ) : ℕ → Type 0 where
-  issuance : (l : Link) → IssuerOf (r .csds) (r .links) s c l → ContraOf r s c (l .account)
+-- the account that a bring-in on the account a of the CSD c debits: "in its CSD, the issuance account of its issuer link, else the inter-CSD account
+-- of its default link to an external CSD" (01); "bring in and take out use the participant's row" (02)
+pub data ContraOf (r : Rows) (s c a : ℕ) : ℕ → Type 0 where
+  issuance : (l : Link) → IssuerOf (r .csds) (r .links) s c l → ContraOf r s c a (l .account)
   interCsd : (l : Link) (p : Pair) → NoIssuer (r .csds) (r .links) s c → DefaultOf (r .csds) (r .links) s c l → External (r .csds) (l .technical)
-      → List·Memᴰ p (r .pairs) → p .investor ≡ c → p .technical ≡ l .technical → ContraOf r s c (p .mirror)
+      → List·Memᴰ p (r .pairs) → p .investor ≡ c → p .technical ≡ l .technical → p .served ≡ a → ContraOf r s c a (p .mirror)
 
 -- a step that q units of s are short for: "A debited participant or omnibus position must not fall below 0"
 pub record Short (acc : List Account) (p : List ℤ) (s q : ℕ) (x : Step) : Type 0 where
@@ -238,9 +258,9 @@ pub data MoveRefused (r : Rows) (p : List ℤ) (w : Way) (a s q : ℕ) : ℕ →
   noLink : NoIssuer (r .csds) (r .links) s (homeOf (r .accounts) a)
       → ((l : Link) → DefaultOf (r .csds) (r .links) s (homeOf (r .accounts) a) l → InT2S (r .csds) (l .technical)) → MoveRefused r p w a s q 19
   noPair : NoIssuer (r .csds) (r .links) s (homeOf (r .accounts) a) → (l : Link) → DefaultOf (r .csds) (r .links) s (homeOf (r .accounts) a) l
-      → External (r .csds) (l .technical) → NoPair (r .pairs) (homeOf (r .accounts) a) (l .technical) → MoveRefused r p w a s q 19
-  moveShort : (u : ℕ) → ContraOf r s (homeOf (r .accounts) a) u → Short (r .accounts) p s q (moveStep w (homeOf (r .accounts) a) a u) → MoveRefused r p w a s q 20
-  moveBeyond : (u : ℕ) → ContraOf r s (homeOf (r .accounts) a) u → Exceeds p s q (moveStep w (homeOf (r .accounts) a) a u) → MoveRefused r p w a s q 22
+      → External (r .csds) (l .technical) → NoPair (r .pairs) (homeOf (r .accounts) a) (l .technical) a → MoveRefused r p w a s q 19
+  moveShort : (u : ℕ) → ContraOf r s (homeOf (r .accounts) a) a u → Short (r .accounts) p s q (moveStep w (homeOf (r .accounts) a) a u) → MoveRefused r p w a s q 20
+  moveBeyond : (u : ℕ) → ContraOf r s (homeOf (r .accounts) a) a u → Exceeds p s q (moveStep w (homeOf (r .accounts) a) a u) → MoveRefused r p w a s q 22
 
 -- 08, 09: an amount m paid in or out on the account a
 pub data PayRefused (r : Rows) (c : List ℤ) (w : Way) (a m : ℕ) : ℕ → Type 0 where
@@ -309,28 +329,30 @@ pub record Unjoined (r : Rows) (s D R : ℕ) : Type 0 where
 abbrev pub TooLong : Rows → ℕ → ℕ → Type 0
 TooLong r s c = (path : List ℕ) (e : WalkEnd) → DefaultWalk (r .csds) (r .links) s c path e → ⊥
 
--- a side goes on from a CSD to the next, and they have no pair
-pub data Unpaired (ps : List Pair) : List ℕ → Type 0 where
-  between : {c n : ℕ} {path : List ℕ} → NoPair ps c n → Unpaired ps (c ∷ n ∷ path)
-  above : {c : ℕ} {path : List ℕ} → Unpaired ps path → Unpaired ps (c ∷ path)
+-- a side that stands on the account a goes on from a CSD to the next, and no row serves the account: here, or above it, from the omnibus of the row
+-- that serves it here
+pub data Unpaired (ps : List Pair) : List ℕ → ℕ → Type 0 where
+  between : {c n a : ℕ} {path : List ℕ} → NoPair ps c n a → Unpaired ps (c ∷ n ∷ path) a
+  above : {c n a : ℕ} {path : List ℕ} (p : Pair) → List·Memᴰ p ps → p .investor ≡ c → p .technical ≡ n → p .served ≡ a
+      → Unpaired ps (n ∷ path) (p .omnibus) → Unpaired ps (c ∷ n ∷ path) a
 
--- the chain for the security s from the CSD D to the CSD R
-pub data ChainRefused (r : Rows) (s D R : ℕ) : ℕ → Type 0 where
-  deliveringUnlinked : Unjoined r s D R → (path : List ℕ) → DefaultWalk (r .csds) (r .links) s D path NoLink → ChainRefused r s D R 14
-  receivingUnlinked : Unjoined r s D R → (path : List ℕ) → DefaultWalk (r .csds) (r .links) s R path NoLink → ChainRefused r s D R 14
-  deliveringTooLong : Unjoined r s D R → TooLong r s D → ChainRefused r s D R 15
-  receivingTooLong : Unjoined r s D R → TooLong r s R → ChainRefused r s D R 15
+-- the chain for the security s from the account a of the CSD D to the account b of the CSD R
+pub data ChainRefused (r : Rows) (s D R a b : ℕ) : ℕ → Type 0 where
+  deliveringUnlinked : Unjoined r s D R → (path : List ℕ) → DefaultWalk (r .csds) (r .links) s D path NoLink → ChainRefused r s D R a b 14
+  receivingUnlinked : Unjoined r s D R → (path : List ℕ) → DefaultWalk (r .csds) (r .links) s R path NoLink → ChainRefused r s D R a b 14
+  deliveringTooLong : Unjoined r s D R → TooLong r s D → ChainRefused r s D R a b 15
+  receivingTooLong : Unjoined r s D R → TooLong r s R → ChainRefused r s D R a b 15
   -- "D inside, R outside; the reverse"
-  insideOutside : Unjoined r s D R → (up down : List ℕ) (i y : ℕ) → DefaultWalk (r .csds) (r .links) s D up (Inside i) → DefaultWalk (r .csds) (r .links) s R down (Outside y) → ChainRefused r s D R 16
-  outsideInside : Unjoined r s D R → (up down : List ℕ) (x j : ℕ) → DefaultWalk (r .csds) (r .links) s D up (Outside x) → DefaultWalk (r .csds) (r .links) s R down (Inside j) → ChainRefused r s D R 17
-  -- "chain needs a pair not entered"
-  upUnpaired : (j : Join) (up down : List ℕ) → Joins (r .csds) (r .links) s D R j up down → Unpaired (r .pairs) up → ChainRefused r s D R 18
-  downUnpaired : (j : Join) (up down : List ℕ) → Joins (r .csds) (r .links) s D R j up down → Unpaired (r .pairs) down → ChainRefused r s D R 18
+  insideOutside : Unjoined r s D R → (up down : List ℕ) (i y : ℕ) → DefaultWalk (r .csds) (r .links) s D up (Inside i) → DefaultWalk (r .csds) (r .links) s R down (Outside y) → ChainRefused r s D R a b 16
+  outsideInside : Unjoined r s D R → (up down : List ℕ) (x j : ℕ) → DefaultWalk (r .csds) (r .links) s D up (Outside x) → DefaultWalk (r .csds) (r .links) s R down (Inside j) → ChainRefused r s D R a b 17
+  -- "18 means no row for the triplet"
+  upUnpaired : (j : Join) (up down : List ℕ) → Joins (r .csds) (r .links) s D R j up down → Unpaired (r .pairs) up a → ChainRefused r s D R a b 18
+  downUnpaired : (j : Join) (up down : List ℕ) → Joins (r .csds) (r .links) s D R j up down → Unpaired (r .pairs) down b → ChainRefused r s D R a b 18
 
 -- a derivation
 pub data DeriveRefused (r : Rows) (hs : Halves) : ℕ → Type 0 where
   halves : {n : ℕ} → HalvesRefused r hs n → DeriveRefused r hs n
-  chain : {n : ℕ} (h g : Half) → Delivers hs h g → ChainRefused r (h .security) (homeOf (r .accounts) (h .account)) (homeOf (r .accounts) (g .account)) n
+  chain : {n : ℕ} (h g : Half) → Delivers hs h g → ChainRefused r (h .security) (homeOf (r .accounts) (h .account)) (homeOf (r .accounts) (g .account)) (h .account) (g .account) n
       → DeriveRefused r hs n
 
 -- the booking of h, which delivers, and g, which receives, "judged on the store before the call"; "amount 0 touches none"

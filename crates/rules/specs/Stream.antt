@@ -39,9 +39,16 @@ securityAt o = securityRow (record { isin = bytesAt o 0 12 })
 abbrev pub accountAt : List ℕ → Row
 accountAt o = accountRow (record { csd = numberAt o 0 1; kind = numberAt o 1 1 })
 
--- "04 investor 1, technical 1, accounts 2 and 2"
+-- "investor 1, technical 1, accounts 2 and 2" (01); "Command 0E enters the longer row, served account last (2 bytes)" (02)
 abbrev pub pairAt : List ℕ → Row
-pairAt o = pairRow (record { investor = numberAt o 0 1; technical = numberAt o 1 1; mirror = numberAt o 2 2; omnibus = numberAt o 4 2 })
+pairAt o =
+    pairRow (record {
+      investor = numberAt o 0 1;
+      technical = numberAt o 1 1;
+      mirror = numberAt o 2 2;
+      omnibus = numberAt o 4 2;
+      served = numberAt o 6 2;
+    })
 
 -- "05 security 1, kind 1, CSD 1, technical 1, flag 1, account 2"
 abbrev pub linkAt : List ℕ → Row
@@ -100,14 +107,18 @@ programSteps = replicate stepLimit blankStep
 
 -- ---- commands
 
--- the operands' widths of the commands 01 to 0D
+-- the operands' widths of the commands 01 to 0E; that of 04 is not read
 abbrev pub widths : List ℕ
-widths = 12 ∷ 12 ∷ 2 ∷ 6 ∷ 7 ∷ 11 ∷ 11 ∷ 10 ∷ 10 ∷ 40 ∷ 40 ∷ 42 ∷ 42 ∷ []
+widths = 12 ∷ 12 ∷ 2 ∷ 0 ∷ 7 ∷ 11 ∷ 11 ∷ 10 ∷ 10 ∷ 40 ∷ 40 ∷ 42 ∷ 42 ∷ 8 ∷ []
+
+-- "04 becomes an unknown byte" (02)
+abbrev pub formerTag : ℕ
+formerTag = 4
 
 -- how many operand bytes follow a command byte; none for an unknown byte
 abbrev pub widthOf : ℕ → Option ℕ
 widthOf zero = none
-widthOf (suc n) = getElem? widths n
+widthOf (suc n) = cond (eqb (suc n) formerTag) none (getElem? widths n)
 
 -- the call of a command byte with its operands
 unfoldable pub callOf : ℕ → List ℕ → Call
@@ -115,7 +126,6 @@ callOf tag o =
     cond (eqb tag 1) (enter (csdAt o))
     (cond (eqb tag 2) (enter (securityAt o))
     (cond (eqb tag 3) (enter (accountAt o))
-    (cond (eqb tag 4) (enter (pairAt o))
     (cond (eqb tag 5) (enter (linkAt o))
     (cond (eqb tag 6) (moveAt incoming o)
     (cond (eqb tag 7) (moveAt outgoing o)
@@ -124,7 +134,8 @@ callOf tag o =
     (cond (eqb tag 10) (settle (orderedAt o) programSteps)
     (cond (eqb tag 11) (derive (orderedAt o) programSteps)
     (cond (eqb tag 12) (settle (sidedAt o) programSteps)
-    (derive (sidedAt o) programSteps))))))))))))
+    (cond (eqb tag 13) (derive (sidedAt o) programSteps)
+    (enter (pairAt o)))))))))))))
 
 -- What the reader finds at its place: the end, an unknown byte (1), operands cut short (2), or a command with its operands and the
 -- bytes behind it.

@@ -7,7 +7,7 @@ pub const SECURITIES: usize = 16;
 
 pub const ACCOUNTS: usize = 256;
 
-pub const PAIRS: usize = 64;
+pub const PAIRS: usize = 512;
 
 pub const LINKS: usize = 128;
 
@@ -60,12 +60,14 @@ pub struct Account {
 }
 
 // An investor CSD and its technical issuer with an account of each: a mirror and an omnibus account,
-// or, where the technical issuer is external, an inter-CSD account and hex FFFF.
+// or, where the technical issuer is external, an inter-CSD account and hex FFFF. They are chosen by the account of the investor CSD
+// that is served, a participant's or an omnibus account.
 pub struct Pair {
     pub investor: u8,
     pub technical: u8,
     pub mirror: u16,
     pub omnibus: u16,
+    pub served: u16,
 }
 
 // Kind 0 issuer, 1 investor; flag 1 default, 0 alternative.

@@ -28,8 +28,7 @@ use Rattle.rules.proofs.Soundness.{sound-gives}
 use Rattle.rules.proofs.Running.{Ready}
 use Rattle.rules.proofs.Theorems.{demand1}
 use Rattle.text.proofs.Lengths.{short-decimal, step-long, short-steps, short-answer, said-long}
-use Rattle.wire.proofs.Decoded.{known-tag}
-use Rattle.stream.proofs.CallKinds.{by-kind, wide, pair-wide}
+use Rattle.stream.proofs.CallKinds.{TwoHalves, by-kind, wide, pair-wide}
 use Rattle.stream.proofs.Entered.{Small, steps-small}
 
 -- ---- one line
@@ -120,7 +119,7 @@ module _ (st : Store) (ready : Ready st) (hs : Halves) (lent : List Step) where
 pub brief : (st : Store) → Ready st → (n tag w : ℕ) (o : List ℕ) → n < 100_000 → widthOf tag ≡ some w
     → length (said n (desk (callOf tag o) st .answer) (desk (callOf tag o) st .steps)) ≤ 6 * (w + 1)
 brief st ready n tag w o h k =
-    by-kind (λ (c : Call). length (said n (desk c st .answer) (desk c st .steps)) ≤ 6 * (w + 1)) tag o (known-tag tag w k .0)
+    by-kind (λ (c : Call). length (said n (desk c st .answer) (desk c st .steps)) ≤ 6 * (w + 1)) tag o
     (λ x. plain (enter x) refl)
     (λ way a s q. plain (move way a s q) refl)
     (λ way a m. plain (pay way a m) refl)
@@ -135,5 +134,5 @@ brief st ready n tag w o h k =
         let none : countOf (desk c st .answer) ≡ 0 = plain-told c st e in
         omega (arith, brief-lines n (desk c st .answer) (desk c st .steps) h (lower c) (plain-brief (desk c st .answer) (desk c st .steps) none), wide tag w k)
 
-    paired : (c : Call) → 10 ≤ tag → Brief (desk c st .answer) (desk c st .steps) → length (said n (desk c st .answer) (desk c st .steps)) ≤ 6 * (w + 1)
+    paired : (c : Call) → TwoHalves tag → Brief (desk c st .answer) (desk c st .steps) → length (said n (desk c st .answer) (desk c st .steps)) ≤ 6 * (w + 1)
     paired c l b = omega (arith, brief-lines n (desk c st .answer) (desk c st .steps) h (lower c) b, b .few, pair-wide tag w k l)

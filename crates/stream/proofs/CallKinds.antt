@@ -2,19 +2,18 @@
 use mathlib.Core.Path.{_≡_, refl, sym, ap, _∙_}
 use mathlib.Core.Logic.{_≢_}
 use mathlib.Core.Bool.{Bool, true, false, _&&_, _||_, cond}
-use mathlib.Core.List.{List, [], _∷_}
-use mathlib.Core.Option.{some}
+use mathlib.Core.List.{List}
+use mathlib.Core.Option.{Option, none, some}
 use Prim.Native.Nat.{ℕ, zero, suc, _≤_, _<_}
 use native.Mathlib.Decide.{ℕ-discrete}
 use native.Mathlib.Omega.{arith}
 use lib.Dec.{eqb, leb}
-use lib.ListN.{length, getElem?}
-use borrow.Author.Tests.{le-ltb}
+use lib.ListN.{length}
 use Rattle.rules.specs.Entries.{Row}
 use Rattle.rules.specs.Booking.{Way, positionCount, cashCount}
 use Rattle.rules.specs.Calls.{Halves, Store, Call, enter, move, pay, settle, derive, misfit}
 use Rattle.rules.specs.Stream.{widths, widthOf, callOf, programSteps}
-use Rattle.rules.proofs.Basics.{and-both, eqb-is, eqb-true, eqb-not, eqb-false, leb-is}
+use Rattle.rules.proofs.Basics.{and-both, eqb-is, eqb-true, eqb-not, leb-is}
 use Rattle.rules.proofs.Running.{Ready}
 use Rattle.booking.specs.Moves.{wayOf}
 use Rattle.wire.specs.Operands.{moveIn, paymentIn, halvesIn}
@@ -23,30 +22,44 @@ use Rattle.stream.specs.Obeyed.{instruction}
 
 -- ---- kinds
 
--- the byte is n, or above it
-next : (P : Call → Type 0) (n tag : ℕ) {x y : Call} → n ≤ tag → P x → (suc n ≤ tag → P y) → P (cond (eqb tag n) x y)
-next P n tag {x} {y} l here above = go (eqb tag n) refl
+-- 0A to 0D
+abbrev pub TwoHalves : ℕ → Type 0
+TwoHalves tag = (10 ≤ tag) × (tag < 14)
+
+-- what holds of each of them
+each-of-two : (P : ℕ → Type 0) (tag : ℕ) → TwoHalves tag → P 10 → P 11 → P 12 → P 13 → P tag
+each-of-two P tag h a b c d = go (ℕ-discrete tag 10) (ℕ-discrete tag 11) (ℕ-discrete tag 12)
+  where
+    go : Dec (tag ≡ 10) → Dec (tag ≡ 11) → Dec (tag ≡ 12) → P tag
+    go (yes k) y z = rw k a
+    go (no x) (yes k) z = rw k b
+    go (no x) (no y) (yes k) = rw k c
+    go (no x) (no y) (no z) = let k : tag ≡ 13 = omega (arith, x, y, z) in rw k d
+
+-- the byte is n, or another
+next : (P : Call → Type 0) (n tag : ℕ) {x y : Call} → (tag ≡ n → P x) → P y → P (cond (eqb tag n) x y)
+next P n tag {x} {y} here other = go (eqb tag n) refl
   where
     go : (b : Bool) → eqb tag n ≡ b → P (cond b x y)
-    go true e = here
-    go false e = above (omega (arith, eqb-not tag n e))
+    go true e = here (eqb-is tag n e)
+    go false e = other
 
--- what holds of each kind of call holds of every command's; two halves come from 0A on
-pub by-kind : (P : Call → Type 0) (tag : ℕ) (o : List ℕ) → 1 ≤ tag → ((x : Row) → P (enter x)) → ((w : Way) (a s q : ℕ) → P (move w a s q))
-    → ((w : Way) (a m : ℕ) → P (pay w a m)) → (10 ≤ tag → (hs : Halves) → P (settle hs programSteps))
-    → (10 ≤ tag → (hs : Halves) → P (derive hs programSteps)) → P (callOf tag o)
+-- what holds of each kind of call holds of every command's
+pub by-kind : (P : Call → Type 0) (tag : ℕ) (o : List ℕ) → ((x : Row) → P (enter x)) → ((w : Way) (a s q : ℕ) → P (move w a s q))
+    → ((w : Way) (a m : ℕ) → P (pay w a m)) → (TwoHalves tag → (hs : Halves) → P (settle hs programSteps))
+    → (TwoHalves tag → (hs : Halves) → P (derive hs programSteps)) → P (callOf tag o)
 unfolding callOf
-by-kind P tag o l entered moved paid settled derived =
-    next P 1 tag l (entered _) (λ l. next P 2 tag l (entered _) (λ l. next P 3 tag l (entered _) (λ l.
-    next P 4 tag l (entered _) (λ l. next P 5 tag l (entered _) (λ l. next P 6 tag l (moved _ _ _ _) (λ l.
-    next P 7 tag l (moved _ _ _ _) (λ l. next P 8 tag l (paid _ _ _) (λ l. next P 9 tag l (paid _ _ _) (λ l.
-    next P 10 tag l (settled l _) (λ k. next P 11 tag k (derived l _) (λ k. next P 12 tag k (settled l _) (λ k. derived l _))))))))))))
+by-kind P tag o entered moved paid settled derived =
+    next P 1 tag (λ e. entered _) (next P 2 tag (λ e. entered _) (next P 3 tag (λ e. entered _) (next P 5 tag (λ e. entered _)
+    (next P 6 tag (λ e. moved _ _ _ _) (next P 7 tag (λ e. moved _ _ _ _) (next P 8 tag (λ e. paid _ _ _) (next P 9 tag (λ e. paid _ _ _)
+    (next P 10 tag (λ e. settled (omega arith, omega arith) _) (next P 11 tag (λ e. derived (omega arith, omega arith) _)
+    (next P 12 tag (λ e. settled (omega arith, omega arith) _) (next P 13 tag (λ e. derived (omega arith, omega arith) _) (entered _))))))))))))
 
 -- a ready store's lists, and the program's step list, fit
-pub fits : (st : Store) → Ready st → (tag : ℕ) (o : List ℕ) → 1 ≤ tag → misfit (callOf tag o) st ≡ false
+pub fits : (st : Store) → Ready st → (tag : ℕ) (o : List ℕ) → misfit (callOf tag o) st ≡ false
 unfolding misfit
-fits st ready tag o l =
-    by-kind (λ (c : Call). misfit c st ≡ false) tag o l (λ x. refl) (λ w a s q. rw held) (λ w a m. rw paid) (λ k hs. rw (held, paid)) (λ k hs. refl)
+fits st ready tag o =
+    by-kind (λ (c : Call). misfit c st ≡ false) tag o (λ x. refl) (λ w a s q. rw held) (λ w a m. rw paid) (λ k hs. rw (held, paid)) (λ k hs. refl)
   where
     held : eqb (length (st .positions)) positionCount ≡ true
     held = eqb-true (length (st .positions)) positionCount (ready .positions)
@@ -73,62 +86,42 @@ module _ (tag : ℕ) (o : List ℕ) where
       go true e = pay-in-call tag o (eqb-is tag 8 e)
       go false e = let n : tag ≢ 8 = eqb-not tag 8 e in pay-out-call tag o (omega arith)
 
-  other : (n : ℕ) → n < tag → eqb tag n ≡ false
-  other n h = eqb-false tag n (omega arith)
-
-  -- 0A to 0D; a byte above them has no call of its own
-  pub pair-call : 10 ≤ tag → callOf tag o ≡ instruction (eqb tag 10 || eqb tag 12) (halvesIn tag o)
+  -- 0A to 0D
+  pub pair-call : TwoHalves tag → callOf tag o ≡ instruction (eqb tag 10 || eqb tag 12) (halvesIn tag o)
   unfolding callOf
-  pair-call h = go (ℕ-discrete tag 10) (ℕ-discrete tag 11) (ℕ-discrete tag 12)
-    where
-      go : Dec (tag ≡ 10) → Dec (tag ≡ 11) → Dec (tag ≡ 12) → callOf tag o ≡ instruction (eqb tag 10 || eqb tag 12) (halvesIn tag o)
-      go (yes k) b c = rw k
-      go (no a) (yes k) c = rw k
-      go (no a) (no b) (yes k) = rw k
-      go (no a) (no b) (no c) =
-          rw (
-            other 1 (omega arith),
-            other 2 (omega arith),
-            other 3 (omega arith),
-            other 4 (omega arith),
-            other 5 (omega arith),
-            other 6 (omega arith),
-            other 7 (omega arith),
-            other 8 (omega arith),
-            other 9 (omega arith),
-            other 10 (omega (arith, a)),
-            other 11 (omega (arith, a, b)),
-            other 12 (omega (arith, a, b, c)),
-            le-ltb tag 12 (omega (arith, a, b)),
-          )
+  pair-call h = each-of-two (λ t. callOf t o ≡ instruction (eqb t 10 || eqb t 12) (halvesIn t o)) tag h refl refl refl refl
 
 -- ---- widths
 
-eachWide : List ℕ → Bool
-eachWide [] = true
-eachWide (x ∷ xs) = leb 2 x && eachWide xs
+-- two or more, or none at all
+isWide : Option ℕ → Bool
+isWide none = true
+isWide (some w) = leb 2 w
 
-wide-at : (xs : List ℕ) (n w : ℕ) → eachWide xs ≡ true → getElem? xs n ≡ some w → 2 ≤ w
+-- those of the bytes 1 to n
+eachWide : ℕ → Bool
+eachWide zero = true
+eachWide (suc n) = isWide (widthOf (suc n)) && eachWide n
+
+wide-at : (n tag : ℕ) → 1 ≤ tag → tag ≤ n → eachWide n ≡ true → isWide (widthOf tag) ≡ true
 unfolding eachWide
-wide-at [] n w h e = let z : _≡_ {A = ℕ} 0 1 = cc in absurd (omega arith)
-wide-at (x ∷ xs) zero w h e = let k : x ≡ w = cc in omega (arith, leb-is 2 x (and-both (leb 2 x) (eachWide xs) h .0))
-wide-at (x ∷ xs) (suc n) w h e = wide-at xs n w (and-both (leb 2 x) (eachWide xs) h .1) e
+wide-at zero tag l h e = absurd (omega arith)
+wide-at (suc n) tag l h e =
+    let both = and-both (isWide (widthOf (suc n))) (eachWide n) e in
+    here-or-below (both .0) (λ k. wide-at n tag l (omega (arith, k)) (both .1)) (ℕ-discrete tag (suc n))
+  where
+    here-or-below : isWide (widthOf (suc n)) ≡ true → (tag ≢ suc n → isWide (widthOf tag) ≡ true) → Dec (tag ≡ suc n) → isWide (widthOf tag) ≡ true
+    here-or-below here below (yes k) = rw k here
+    here-or-below here below (no k) = below k
 
 -- no command has less than two bytes of operands
 pub wide : (tag w : ℕ) → widthOf tag ≡ some w → 2 ≤ w
-unfolding eachWide
-wide zero w e = let z : _≡_ {A = ℕ} 0 1 = cc in absurd (omega arith)
-wide (suc n) w e = wide-at widths n w refl e
+unfolding isWide eachWide
+wide tag w e = let known = known-tag tag w e in leb-is 2 w (sym (ap isWide e) ∙ wide-at (length widths) tag (known .0) (known .1) refl)
 
 -- two halves have 40 or more
-pub pair-wide : (tag w : ℕ) → widthOf tag ≡ some w → 10 ≤ tag → 40 ≤ w
-pair-wide tag w e l = go (ℕ-discrete tag 10) (ℕ-discrete tag 11) (ℕ-discrete tag 12)
+pub pair-wide : (tag w : ℕ) → widthOf tag ≡ some w → TwoHalves tag → 40 ≤ w
+pair-wide tag w e h = each-of-two (λ t. widthOf t ≡ some w → 40 ≤ w) tag h (at 40 (omega arith)) (at 40 (omega arith)) (at 42 (omega arith)) (at 42 (omega arith)) e
   where
-    at : (n x : ℕ) → tag ≡ n → widthOf n ≡ some x → 40 ≤ x → 40 ≤ w
-    at n x k f m = let same : some x ≡ some w = sym f ∙ ap widthOf (sym k) ∙ e in let is : x ≡ w = cc in omega arith
-
-    go : Dec (tag ≡ 10) → Dec (tag ≡ 11) → Dec (tag ≡ 12) → 40 ≤ w
-    go (yes k) b c = at 10 40 k refl (omega arith)
-    go (no a) (yes k) c = at 11 40 k refl (omega arith)
-    go (no a) (no b) (yes k) = at 12 42 k refl (omega arith)
-    go (no a) (no b) (no c) = at 13 42 (omega (arith, known-tag tag w e .1)) refl (omega arith)
+    at : (x : ℕ) → 40 ≤ x → some x ≡ some w → 40 ≤ w
+    at x m same = let is : x ≡ w = cc in omega arith

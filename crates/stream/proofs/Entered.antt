@@ -65,13 +65,13 @@ module _ (r : Rows) (F : Facts r) (s : ℕ) where
 
   climbs-known : {path : List ℕ} {a b : ℕ} {xs : List Step} → Climbs (r .pairs) path a xs b → (x : Step) → List·Memᴰ x xs → InKnown x
   climbs-known stands x i = elim i [ ]
-  climbs-known (rises p m e f k) x (List·Memᴰ·head g) = rw (g, ← e) (F .pairs p m .investorRow)
-  climbs-known (rises p m e f k) x (List·Memᴰ·tail i) = climbs-known k x i
+  climbs-known (rises p m e f v k) x (List·Memᴰ·head g) = rw (g, ← e) (F .pairs p m .investorRow)
+  climbs-known (rises p m e f v k) x (List·Memᴰ·tail i) = climbs-known k x i
 
   last-known : (c : ℕ) {path : List ℕ} {a b : ℕ} {xs : List Step} → Climbs (r .pairs) path a xs b → First c path → Known c → Known (lastOf path)
   unfolding lastOf
   last-known c stands h k = rw h k
-  last-known c (rises p m e f g) h k = last-known (p .technical) g (sym f) (F .pairs p m .technicalRow)
+  last-known c (rises p m e f v g) h k = last-known (p .technical) g (sym f) (F .pairs p m .technicalRow)
 
   tops-known : {j : Join} {up down : List ℕ} {a b : ℕ} {xs : List Step} → Tops (r .csds) (r .links) s j up down a b xs → Known (lastOf up) → Known (lastOf down)
       → (x : Step) → List·Memᴰ x xs → InKnown x

@@ -108,7 +108,7 @@ module _ (st : Store) (b : Bounded st) where
       let k = demand2 .changes (move w a s q) st e in
       let clear = accepted-free (move w a s q) st e in
       let all : Quiet (deskConditions (move w a s q) st) = desk-quiet (move w a s q) st clear in
-      let other = contra-is rows (facts-of (move w a s q) st clear) s (homeOf (rows .accounts) a) (k .1 .0) (k .1 .1) in
+      let other = contra-is rows (facts-of (move w a s q) st clear) s (homeOf (rows .accounts) a) a (k .1 .0) (k .1 .1) in
       let x : Step = moveStep w (homeOf (rows .accounts) a) a (k .1 .0) in
       let one : stepsOf (moveChain (ask rows) w a s) ≡ x ∷ [] = ap (λ o. stepsOf (moveBy w (homeOf (rows .accounts) a) a o)) other in
       let free : unitsBeyond (st .positions) s q (x ∷ []) ≡ false =

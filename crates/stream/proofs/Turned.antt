@@ -16,7 +16,6 @@ use Rattle.wire.specs.declared.commands.Next.the-variants.{End, Unknown, Cut, C
 use Rattle.wire.specs.declared.commands.Width.{Width}
 use Rattle.wire.specs.declared.commands.Width.the-variants.{Bytes, NoCommand}
 use Rattle.wire.proofs.Found.{finds-end, finds-unknown, finds-cut, finds-command, ended-at, unknown-at, cut-at, Stands, stands}
-use Rattle.wire.proofs.Decoded.{known-tag}
 use Rattle.stream.specs.Turns.{Told, stopped, done, toldBy, told}
 use Rattle.stream.proofs.Telling.{told-is}
 use Rattle.stream.proofs.CallKinds.{fits}
@@ -89,7 +88,7 @@ module _ (s : List ℕ) (n at : ℕ) (st : Store) (low : n < 100_000) (before : 
     outcome = core (callOf tag operands) st
 
     same : desk (callOf tag operands) st ≡ outcome
-    same = core-is-desk (callOf tag operands) st ready (fits st ready tag operands (known-tag tag _ (h .width) .0))
+    same = core-is-desk (callOf tag operands) st ready (fits st ready tag operands)
 
     command-lines : (k : ℕ) → linesFrom (suc k) n (drop at s) st ≡ said n (outcome .answer) (outcome .steps) ++ linesFrom k (suc n) (drop end s) (outcome .store)
     unfolding linesFrom

@@ -15,6 +15,7 @@ use entries::names::NAMES;
 use index::places::INDEX;
 use rules::Answer;
 use rules::Half;
+use wire::commands::ENTER_PAIR;
 use wire::operands::decode_account;
 use wire::operands::decode_csd;
 use wire::operands::decode_delivering;
@@ -35,7 +36,7 @@ ghost use Rattle.chain.specs.Halves.{inOrder, Handed};
 ghost use Rattle.wire.specs.Operands.{halvesIn};
 ghost use Rattle.stream.specs.Obeyed.{keptIn, held, Does, Enters, Moves, Pays, Whole, instruction};
 
-// 01 to 05, where the operands are whole.
+// 01 to 03 and 05, where the operands are whole.
 fn enter(index: &mut [u16; INDEX], names: &mut [u8; NAMES], tag: u8, operands: &[u8]) -> Answer
     requires { ⌜ tag < 6 ⌝ }
     ensures { λ r. ⌜ (Whole tag (now (operands .entry)) → Enters (callOf tag (now (operands .entry)))
@@ -49,9 +50,6 @@ fn enter(index: &mut [u16; INDEX], names: &mut [u8; NAMES], tag: u8, operands: &
     }
     if tag == 3 {
         return enter_account(index, decode_account(operands));
-    }
-    if tag == 4 {
-        return enter_pair(index, decode_pair(operands));
     }
     enter_link(index, decode_link(operands))
 }
@@ -138,7 +136,7 @@ fn instruct(
     tag: u8,
     operands: &[u8],
 ) -> Answer
-    requires { ⌜ 10 ≤ tag ⌝ }
+    requires { ⌜ (10 ≤ tag) × (tag < 14) ⌝ }
     ensures { λ r. ⌜ ((b : List ℕ) → Does (callOf tag (now (operands .entry)))
         (held (now (index .entry)) b (now (positions .entry)) (now (cash .entry)) (now (steps .entry))) r
         (held (now (index .entry)) b (now (positions .exit)) (now (cash .exit)) (now (steps .exit)))) ⌝ }
@@ -181,5 +179,8 @@ pub(crate) fn obey(
     if tag < 10 {
         return move_money(index, cash, tag, operands);
     }
-    instruct(index, positions, cash, steps, tag, operands)
+    if tag < ENTER_PAIR {
+        return instruct(index, positions, cash, steps, tag, operands);
+    }
+    enter_pair(index, decode_pair(operands))
 }

@@ -1,7 +1,7 @@
 -- The call of each command, by what its decoder reads. The operands of 01 and 02 are all there, so that no byte is a 0 for a missing one.
 use mathlib.Core.Path.{_≡_, sym, ap}
-use Prim.Native.Nat.{ℕ, zero, suc, _≤_, _<_}
-use native.Mathlib.Decide.{decLt}
+use mathlib.Core.Logic.{_≢_}
+use Prim.Native.Nat.{ℕ, _≤_, _<_}
 use native.Mathlib.Omega.{arith}
 use mathlib.Core.List.{List}
 use mathlib.Core.Option.{Option, none, some}
@@ -9,10 +9,10 @@ use lib.ListN.{length}
 use Rattle.rules.specs.Entries.{csdRow, securityRow}
 use Rattle.rules.specs.Booking.{incoming, outgoing}
 use Rattle.rules.specs.Calls.{enter, move, pay}
-use Rattle.rules.specs.Stream.{widths, widthOf, callOf, csdAt, securityAt, accountAt, pairAt, linkAt}
+use Rattle.rules.specs.Stream.{widths, formerTag, widthOf, callOf, csdAt, securityAt, accountAt, pairAt, linkAt}
 use Rattle.wire.specs.Operands.{csdIn, securityIn, moveIn, paymentIn}
 use Rattle.wire.proofs.Padded.{padded-is}
-use Rattle.wire.proofs.Widths.{no-entry}
+use Rattle.wire.proofs.Widths.{no-width}
 
 pub csd-is : (o : List ℕ) → 12 ≤ length o → csdRow (csdIn o) ≡ csdAt o
 csd-is o h = rw (padded-is o 1 11 (omega arith))
@@ -37,10 +37,6 @@ module _ (tag : ℕ) (o : List ℕ) where
   unfolding callOf
   account-call e = rw e
 
-  pub pair-call : tag ≡ 4 → callOf tag o ≡ enter (pairAt o)
-  unfolding callOf
-  pair-call e = rw e
-
   pub link-call : tag ≡ 5 → callOf tag o ≡ enter (linkAt o)
   unfolding callOf
   link-call e = rw e
@@ -61,13 +57,17 @@ module _ (tag : ℕ) (o : List ℕ) where
   unfolding callOf
   pay-out-call e = rw e
 
+  pub pair-call : tag ≡ 14 → callOf tag o ≡ enter (pairAt o)
+  unfolding callOf
+  pair-call e = rw e
+
 -- a byte with a width is a command
-pub known-tag : (tag w : ℕ) → widthOf tag ≡ some w → (1 ≤ tag) × (tag ≤ length widths)
-known-tag zero w e = let z : _≡_ {A = ℕ} 0 1 = cc in absurd (omega arith)
-known-tag (suc n) w e = go (decLt n (length widths))
+pub known-tag : (tag w : ℕ) → widthOf tag ≡ some w → (1 ≤ tag) × (tag ≤ length widths) × (tag ≢ formerTag)
+known-tag tag w e =
+    let z : tag ≢ 0 = λ k. never (rw k) in
+    let f : tag ≢ formerTag = λ k. never (rw k) in
+    let l : length widths < tag → ⊥ = λ k. never (no-width tag z f (omega arith)) in
+    (omega arith, omega arith, f)
   where
-    go : Dec (n < length widths) → (1 ≤ suc n) × (suc n ≤ length widths)
-    go (yes h) = (omega arith, omega arith)
-    go (no h) =
-        let f : widthOf (suc n) ≡ none = no-entry widths n (omega arith) in
-        let z : _≡_ {A = ℕ} 0 1 = cc in absurd (omega arith)
+    never : widthOf tag ≡ none → ⊥
+    never n = let y : _≡_ {A = ℕ} 0 1 = cc in omega arith

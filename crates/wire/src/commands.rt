@@ -18,15 +18,23 @@ pub enum Next {
     Command { tag: u8, start: usize, end: usize },
 }
 
-const COMMANDS: usize = 13;
+const COMMANDS: usize = 14;
 
-const WIDTHS: [usize; COMMANDS] = [12, 12, 2, 6, 7, 11, 11, 10, 10, 40, 40, 42, 42];
+const WIDTHS: [usize; COMMANDS] = [12, 12, 2, 0, 7, 11, 11, 10, 10, 40, 40, 42, 42, 8];
+
+// "Command 0E enters the longer row", a pair; "04 becomes an unknown byte", whose width is not read.
+pub const ENTER_PAIR: u8 = 14;
+
+const FORMER_TAG: u8 = 4;
 
 // The table's entries are for the bytes from 01 on.
 pub fn width_of(tag: u8) -> Width
     ensures { λ r. ⌜ r ≡ widthIn (widthOf tag) ⌝ }
 {
     if tag == 0 {
+        return Width::NoCommand;
+    }
+    if tag == FORMER_TAG {
         return Width::NoCommand;
     }
     let i = (tag - 1) as usize;

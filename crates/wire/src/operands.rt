@@ -147,7 +147,7 @@ pub fn decode_account(operands: &[u8]) -> Account
     Account { csd, kind }
 }
 
-// "04 investor 1, technical 1, accounts 2 and 2"
+// "investor 1, technical 1, accounts 2 and 2", "served account last (2 bytes)"
 pub fn decode_pair(operands: &[u8]) -> Pair
     ensures { λ r. ⌜ pairRow r ≡ pairAt (now (operands .entry)) ⌝ }
 {
@@ -155,11 +155,13 @@ pub fn decode_pair(operands: &[u8]) -> Pair
     let technical = one_byte(operands, 1);
     let mirror = two_bytes(operands, 2);
     let omnibus = two_bytes(operands, 4);
+    let served = two_bytes(operands, 6);
     Pair {
         investor,
         technical,
         mirror,
         omnibus,
+        served,
     }
 }
 

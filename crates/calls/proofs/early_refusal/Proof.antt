@@ -2,6 +2,7 @@
 use borrow.Author.Needs.{needs}
 use mathlib.Core.Path.{_≡_}
 use lib.ListN.{length}
+use Rattle.rules.specs.Directory.{csdLimit, securityLimit, accountLimit, pairLimit, linkLimit}
 use Rattle.rules.proofs.Basics.{unnot, unnot-false}
 use Rattle.index.proofs.Laws.{length-mapped}
 use Rattle.index.specs.Index.{WholeTables}
@@ -19,11 +20,11 @@ whole : (s : tie.Start) → WholeTables (s .args .directory)
 whole s =
     let d = s .args .directory in
     let g = s .good .1 .0 in
-    let n1 : length (d .csds .rows) ≡ 32 = search (length-mapped, g .1 .1 .0) in
-    let n2 : length (d .securities .rows) ≡ 16 = search (length-mapped, g .1 .1 .1 .0) in
-    let n3 : length (d .accounts .rows) ≡ 256 = search (length-mapped, g .1 .1 .1 .1 .0) in
-    let n4 : length (d .pairs .rows) ≡ 64 = search (length-mapped, g .1 .1 .1 .1 .1 .0) in
-    let n5 : length (d .links .rows) ≡ 128 = search (length-mapped, g .1 .1 .1 .1 .1 .1 .0) in
+    let n1 : length (d .csds .rows) ≡ csdLimit = search (length-mapped, g .1 .1 .0) in
+    let n2 : length (d .securities .rows) ≡ securityLimit = search (length-mapped, g .1 .1 .1 .0) in
+    let n3 : length (d .accounts .rows) ≡ accountLimit = search (length-mapped, g .1 .1 .1 .1 .0) in
+    let n4 : length (d .pairs .rows) ≡ pairLimit = search (length-mapped, g .1 .1 .1 .1 .1 .0) in
+    let n5 : length (d .links .rows) ≡ linkLimit = search (length-mapped, g .1 .1 .1 .1 .1 .1 .0) in
     record { csds = n1; securities = n2; accounts = n3; pairs = n4; links = n5 }
 
 returns-2 : tie.Need-returns-2

@@ -1,5 +1,5 @@
 -- The five tables stand one behind the other, from the first byte to the last.
-use Rattle.layout.specs.Layout.{bytesOf, bytesOfCsds, bytesOfSecurities, bytesOfAccounts, bytesOfPairs, bytesOfLinks}
+use Rattle.layout.specs.Layout.{securitiesStart, accountsStart, pairsStart, linksStart, rowsLength, bytesOf, bytesOfCsds, bytesOfSecurities, bytesOfAccounts, bytesOfPairs, bytesOfLinks}
 use Rattle.layout.proofs.Bytes.{five}
 use native.Mathlib.Omega.{arith}
 use borrow.Author.Needs.{needs}
@@ -33,7 +33,7 @@ returns c =
     let x₃ = c .before .before .before .before .before .before .before .before .before .before .write-accounts in
     let x₄ = c .before .before .before .before .before .before .write-pairs in
     let x₅ = c .before .before .write-links in
-    five 384 576 1088 1472 2368 (a .bytes .now) (x₁ .last .0) (x₂ .last .0) (x₃ .last .0) (x₄ .last .0) (x₅ .last .0)
+    five securitiesStart accountsStart pairsStart linksStart rowsLength (a .bytes .now) (x₁ .last .0) (x₂ .last .0) (x₃ .last .0) (x₄ .last .0) (x₅ .last .0)
     (bytesOfCsds (a .directory .csds)) (bytesOfSecurities (a .directory .securities)) (bytesOfAccounts (a .directory .accounts)) (bytesOfPairs (a .directory .pairs)) (bytesOfLinks (a .directory .links))
     (omega arith) (x₁ .ensures) (x₂ .ensures) (x₃ .ensures) (x₄ .ensures) (x₅ .ensures)
 

@@ -4,16 +4,17 @@ use mathlib.Core.Path.{_≡_, refl, ap, _∙_}
 use Prim.Native.Nat.{_+_, _*_, _≤_, _-_}
 use native.Mathlib.Omega.{arith}
 use lib.ListN.{length, take, length-set}
-use Rattle.layout.specs.Layout.{rowsIn, pairIn, pairOf, pairsIn}
+use Rattle.rules.specs.Directory.{pairLimit}
+use Rattle.layout.specs.Layout.{pairWidth, pairsStart, rowsIn, pairIn, pairOf, pairsIn}
 use Rattle.layout.proofs.Rows.{from, row-more, rows-done}
 use Rattle.layout.proofs.read_pairs.Statement.{statement}
 use Rattle.layout.proofs.read_pairs.Tie as tie
 
 abbrev Inv-loop : tie.InvT-loop
-Inv-loop count bytes rows₀ i₀ rows i = (i ≤ 64) × (length rows ≡ 64) × (take i rows ≡ rowsIn pairIn 1088 6 bytes i)
+Inv-loop count bytes rows₀ i₀ rows i = (i ≤ pairLimit) × (length rows ≡ pairLimit) × (take i rows ≡ rowsIn pairIn pairsStart pairWidth bytes i)
 
 abbrev μ-loop : tie.MeasureT-loop
-μ-loop count bytes rows₀ i₀ rows i = 64 - i
+μ-loop count bytes rows₀ i₀ rows i = pairLimit - i
 
 loop-holds : tie.Need-loop-holds Inv-loop μ-loop
 unfolding rowsIn
@@ -57,15 +58,15 @@ loop-again c =
     let l = c .before .before .before .before .loop in
     let bytes = c .before .before .before .before .before .before .args .bytes .now in
     let w = c .before .before .within in
-    let part = from bytes (1088 + l .i * 6) (w .result) (w .ensures) in
-    (omega arith, simp length-set (l .inv .1), row-more pairIn 1088 6 bytes (l .rows) (l .i) (c .decode-pair .result) (omega arith) (l .inv .2) (ap pairOf (c .decode-pair .ensures) ∙ ap pairIn part))
+    let part = from bytes (pairsStart + l .i * pairWidth) (w .result) (w .ensures) in
+    (omega arith, simp length-set (l .inv .1), row-more pairIn pairsStart pairWidth bytes (l .rows) (l .i) (c .decode-pair .result) (omega arith) (l .inv .2) (ap pairOf (c .decode-pair .ensures) ∙ ap pairIn part))
 
 returns : tie.Need-returns Inv-loop μ-loop
 unfolding pairsIn
 returns c =
     let l = c .before .loop in
     let a = c .before .before .before .args in
-    let e : l .rows ≡ rowsIn pairIn 1088 6 (a .bytes .now) 64 = rows-done pairIn 1088 6 (a .bytes .now) (l .rows) (l .i) 64 (l .inv .2) (l .inv .1) (omega arith) in
+    let e : l .rows ≡ rowsIn pairIn pairsStart pairWidth (a .bytes .now) pairLimit = rows-done pairIn pairsStart pairWidth (a .bytes .now) (l .rows) (l .i) pairLimit (l .inv .2) (l .inv .1) (omega arith) in
     rw e
 
 pub read-pairs-spec : {M : Type 1} → statement M

@@ -5,13 +5,13 @@ use Prim.Native.Nat.{_+_, _≤_, _-_}
 use native.Mathlib.Omega.{arith}
 use lib.ListN.{length}
 use Rattle.rules.specs.Entries.{blankAccount}
-use Rattle.layout.specs.Layout.{bytesIn, accountBytes, Put}
+use Rattle.layout.specs.Layout.{rowsLength, bytesIn, accountBytes, Put}
 use Rattle.layout.proofs.Bytes.{put-none, put-more, put-done}
 use Rattle.layout.proofs.write_accounts.Statement.{statement}
 use Rattle.layout.proofs.write_accounts.Tie as tie
 
 abbrev Inv-loop : tie.InvT-loop
-Inv-loop bytes₀ table j₀ bytes j = (j ≤ 512) × (length bytes₀ ≡ 2368) × Put 576 (576 + j) (bytesIn accountBytes blankAccount 2 (table .rows) j) bytes₀ bytes
+Inv-loop bytes₀ table j₀ bytes j = (j ≤ 512) × (length bytes₀ ≡ rowsLength) × Put 576 (576 + j) (bytesIn accountBytes blankAccount 2 (table .rows) j) bytes₀ bytes
 
 abbrev μ-loop : tie.MeasureT-loop
 μ-loop bytes₀ table j₀ bytes j = 512 - j

@@ -5,13 +5,13 @@ use Prim.Native.Nat.{_+_, _≤_, _-_}
 use native.Mathlib.Omega.{arith}
 use lib.ListN.{length}
 use Rattle.layout.specs.Layout.{noCsd}
-use Rattle.layout.specs.Layout.{bytesIn, csdBytes, Put}
+use Rattle.layout.specs.Layout.{rowsLength, bytesIn, csdBytes, Put}
 use Rattle.layout.proofs.Bytes.{put-none, put-more, put-done}
 use Rattle.layout.proofs.write_csds.Statement.{statement}
 use Rattle.layout.proofs.write_csds.Tie as tie
 
 abbrev Inv-loop : tie.InvT-loop
-Inv-loop bytes₀ table j₀ bytes j = (j ≤ 384) × (length bytes₀ ≡ 2368) × Put 0 (0 + j) (bytesIn csdBytes noCsd 12 (table .rows) j) bytes₀ bytes
+Inv-loop bytes₀ table j₀ bytes j = (j ≤ 384) × (length bytes₀ ≡ rowsLength) × Put 0 (0 + j) (bytesIn csdBytes noCsd 12 (table .rows) j) bytes₀ bytes
 
 abbrev μ-loop : tie.MeasureT-loop
 μ-loop bytes₀ table j₀ bytes j = 384 - j

@@ -5,13 +5,13 @@ use Prim.Native.Nat.{_+_, _≤_, _-_}
 use native.Mathlib.Omega.{arith}
 use lib.ListN.{length}
 use Rattle.layout.specs.Layout.{noSecurity}
-use Rattle.layout.specs.Layout.{bytesIn, securityBytes, Put}
+use Rattle.layout.specs.Layout.{rowsLength, bytesIn, securityBytes, Put}
 use Rattle.layout.proofs.Bytes.{put-none, put-more, put-done}
 use Rattle.layout.proofs.write_securities.Statement.{statement}
 use Rattle.layout.proofs.write_securities.Tie as tie
 
 abbrev Inv-loop : tie.InvT-loop
-Inv-loop bytes₀ table j₀ bytes j = (j ≤ 192) × (length bytes₀ ≡ 2368) × Put 384 (384 + j) (bytesIn securityBytes noSecurity 12 (table .rows) j) bytes₀ bytes
+Inv-loop bytes₀ table j₀ bytes j = (j ≤ 192) × (length bytes₀ ≡ rowsLength) × Put 384 (384 + j) (bytesIn securityBytes noSecurity 12 (table .rows) j) bytes₀ bytes
 
 abbrev μ-loop : tie.MeasureT-loop
 μ-loop bytes₀ table j₀ bytes j = 192 - j

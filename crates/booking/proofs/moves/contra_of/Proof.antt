@@ -31,14 +31,14 @@ unfolding contraFound
 returns c =
     let led = c .before .before .before in
     let a = led .before .args in
-    rw (contra-issued (asked (a .index .now)) (a .security) (a .csd) (sym (led .leading-at .ensures) ∙ c .before .enum-told .given .1))
+    rw (contra-issued (asked (a .index .now)) (a .security) (a .csd) (a .account) (sym (led .leading-at .ensures) ∙ c .before .enum-told .given .1))
     (ap At (c .issuance-of .ensures))
 
 returns-2 : tie.Need-returns-2
 returns-2 c =
     let led = c .before .before .before .before in
     let a = led .before .args in
-    rw (contra-led (asked (a .index .now)) (a .security) (a .csd) _ (sym (led .leading-at .ensures) ∙ c .before .before .technical .given .1))
+    rw (contra-led (asked (a .index .now)) (a .security) (a .csd) (a .account) _ (sym (led .leading-at .ensures) ∙ c .before .before .technical .given .1))
     (c .inter-csd .ensures)
 
 returns-3 : tie.Need-returns-3
@@ -46,7 +46,7 @@ unfolding contraFound
 returns-3 c =
     let led = c .before .before in
     let a = led .before .args in
-    rw (contra-lacking (asked (a .index .now)) (a .security) (a .csd) (sym (led .leading-at .ensures) ∙ c .enum-told2 .given .1))
+    rw (contra-lacking (asked (a .index .now)) (a .security) (a .csd) (a .account) (sym (led .leading-at .ensures) ∙ c .enum-told2 .given .1))
 
 pub contra-of-spec : {M : Type 1} → statement M
 contra-of-spec =

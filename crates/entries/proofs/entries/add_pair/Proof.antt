@@ -26,17 +26,11 @@ one-more-requires c κs = search needs
 store-requires : tie.Need-store-requires
 store-requires c κs = search needs
 
-add-store-2 : tie.Need-add-store-2
-add-store-2 c = search needs
+add-duo-requires : tie.Need-add-duo-requires
+add-duo-requires c κs = search needs
 
-store-requires-2 : tie.Need-store-requires-2
-store-requires-2 c κs = search needs
-
-pair-account-requires : tie.Need-pair-account-requires
-pair-account-requires c κs = search needs
-
-pair-account-requires-2 : tie.Need-pair-account-requires-2
-pair-account-requires-2 c κs = search needs
+add-duo-requires-2 : tie.Need-add-duo-requires-2
+add-duo-requires-2 c κs = search needs
 
 count-on-requires : tie.Need-count-on-requires
 count-on-requires c κs = search needs
@@ -46,10 +40,8 @@ unfolding counted withPair
 returns c =
     let second = c .before .before in
     let first = second .before .before in
-    let omnibus = first .before .before in
-    let mirror = omnibus .before .before in
-    c .count-on .ensures
-    ∙ rw (second .pair-account2 .ensures, first .pair-account .ensures, omnibus .store2 .ensures, mirror .store .ensures, mirror .before .one-more .ensures)
+    let served = first .before .before in
+    c .count-on .ensures ∙ rw (second .add-duo2 .ensures, first .add-duo .ensures, served .store .ensures, served .before .one-more .ensures)
 
 pub add-pair-spec : {M : Type 1} → statement M
 add-pair-spec =
@@ -62,9 +54,7 @@ add-pair-spec =
     add-store
     one-more-requires
     store-requires
-    add-store-2
-    store-requires-2
-    pair-account-requires
-    pair-account-requires-2
+    add-duo-requires
+    add-duo-requires-2
     count-on-requires
     returns)

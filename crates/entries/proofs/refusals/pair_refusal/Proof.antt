@@ -22,15 +22,13 @@ past1 c = rw (← c .before .pairs-full .ensures, c .if1 .left)
 past2 : (c : tie.Else2) → Past 2 (c .before .before .before .before)
 past2 c = past1 (c .before .before) ∙ rw (← c .before .pair-unknown .ensures, c .if2 .left)
 
-past3 : (c : tie.Else3) → Past 3 (c .before .before .before .before .before .before .before .before)
-past3 c =
-    let joined = c .before .before .before in
-    past2 (joined .before) ∙ rw (← joined .is-joined .ensures, ← c .before .before .is-paired .ensures, ← c .before .is-paired2 .ensures, c .if3 .left)
+past3 : (c : tie.Else3) → Past 3 (c .before .before .before .before .before .before)
+past3 c = past2 (c .before .before) ∙ rw (← c .before .pair-entered .ensures, c .if3 .left)
 
-past4 : (c : tie.Else4) → Past 4 (c .before .before .before .before .before .before .before .before .before .before)
-past4 c = past3 (c .before .before) ∙ rw (← c .before .wrong-accounts .ensures, c .if4 .left)
+past4 : (c : tie.Else4) → Past 4 (c .before .before .before .before .before .before .before .before .before)
+past4 c = past3 (c .before .before .before) ∙ rw (← c .before .before .wrong-accounts .ensures, ← c .before .wrong-served .ensures, c .if4 .left)
 
-past5 : (c : tie.Else5) → Past 5 (c .before .before .before .before .before .before .before .before .before .before .before .before .before .before)
+past5 : (c : tie.Else5) → Past 5 (c .before .before .before .before .before .before .before .before .before .before .before .before .before)
 past5 c = past4 (c .before .before .before .before) ∙ rw (← c .before .before .before .is-external .ensures, c .if5 .left)
 
 pairs-full-requires : tie.Need-pairs-full-requires
@@ -47,27 +45,22 @@ returns-2 : tie.Need-returns-2
 unfolding pairRefusalIn
 returns-2 c = sym (past1 (c .before .before) ∙ rw (← c .before .pair-unknown .ensures, c .if2 .taken))
 
-is-joined-requires : tie.Need-is-joined-requires
-is-joined-requires c κs = search needs
-
-is-paired-requires : tie.Need-is-paired-requires
-is-paired-requires c κs = search needs
-
-is-paired-requires-2 : tie.Need-is-paired-requires-2
-is-paired-requires-2 c κs = search needs
+pair-entered-requires : tie.Need-pair-entered-requires
+pair-entered-requires c κs = search needs
 
 returns-3 : tie.Need-returns-3
 unfolding pairRefusalIn
-returns-3 c =
-    let joined = c .before .before .before in
-    sym (past2 (joined .before) ∙ rw (← joined .is-joined .ensures, ← c .before .before .is-paired .ensures, ← c .before .is-paired2 .ensures, c .if3 .taken))
+returns-3 c = sym (past2 (c .before .before) ∙ rw (← c .before .pair-entered .ensures, c .if3 .taken))
 
 wrong-accounts-requires : tie.Need-wrong-accounts-requires
 wrong-accounts-requires c κs = search needs
 
+wrong-served-requires : tie.Need-wrong-served-requires
+wrong-served-requires c κs = search needs
+
 returns-4 : tie.Need-returns-4
 unfolding pairRefusalIn
-returns-4 c = sym (past3 (c .before .before) ∙ rw (← c .before .wrong-accounts .ensures, c .if4 .taken))
+returns-4 c = sym (past3 (c .before .before .before) ∙ rw (← c .before .before .wrong-accounts .ensures, ← c .before .wrong-served .ensures, c .if4 .taken))
 
 is-external-requires : tie.Need-is-external-requires
 is-external-requires c κs = search needs
@@ -88,11 +81,10 @@ pair-refusal-spec =
     returns
     pair-unknown-requires
     returns-2
-    is-joined-requires
-    is-paired-requires
-    is-paired-requires-2
+    pair-entered-requires
     returns-3
     wrong-accounts-requires
+    wrong-served-requires
     returns-4
     is-external-requires
     returns-5

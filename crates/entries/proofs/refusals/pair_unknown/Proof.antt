@@ -12,13 +12,16 @@ is-csd-requires-2 c κs = search needs
 is-account-requires : tie.Need-is-account-requires
 is-account-requires c κs = search needs
 
+is-account-requires-2 : tie.Need-is-account-requires-2
+is-account-requires-2 c κs = search needs
+
 second-unknown-requires : tie.Need-second-unknown-requires
 second-unknown-requires c κs = search needs
 
 returns : tie.Need-returns
 returns c =
-    let technical = c .before .before in
-    rw (technical .before .is-csd .ensures, technical .is-csd2 .ensures, c .before .is-account .ensures, c .second-unknown .ensures)
+    let mirror = c .before .before in
+    rw (mirror .before .before .is-csd .ensures, mirror .before .is-csd2 .ensures, mirror .is-account .ensures, c .second-unknown .ensures, c .before .is-account2 .ensures)
 
 pub pair-unknown-spec : {M : Type 1} → statement M
 pair-unknown-spec =
@@ -27,5 +30,6 @@ pair-unknown-spec =
     is-csd-requires
     is-csd-requires-2
     is-account-requires
+    is-account-requires-2
     second-unknown-requires
     returns)

@@ -1,54 +1,52 @@
--- A pair's accounts stand within the list.
-use mathlib.Core.Path.{_∙_}
+-- The row has the first account by its place, and the second beside it.
 use borrow.Author.Tests.{ne-eqb}
-use Rattle.index.specs.Index.{mirrorAt, omnibusAt}
+use Rattle.rules.proofs.Basics.{unnot, unnot-false}
 use Rattle.index.specs.Asked.{asked}
 use Rattle.index.specs.Found.{pairFound}
-use Rattle.index.proofs.Read.{read-in, read-within}
 use borrow.Author.Needs.{needs}
 use Rattle.index.proofs.lookups.pair_of.Statement.{statement}
 use Rattle.index.proofs.lookups.pair_of.Tie as tie
 
-mirror-code-requires : tie.Need-mirror-code-requires
-mirror-code-requires c κs = search needs
+in-books-requires : tie.Need-in-books-requires
+in-books-requires c κs = search needs
 
 returns : tie.Need-returns
 unfolding asked pairFound
-returns c = rw (← c .before .mirror-code .ensures, c .if1 .taken)
+returns c = rw (← c .before .in-books .ensures, unnot (c .before .in-books .result) (c .if1 .taken))
 
-mul-place : tie.Need-mul-place
-mul-place c = search needs
-
-add-place : tie.Need-add-place
-add-place c = search needs
-
-add-entry : tie.Need-add-entry
-add-entry c = search needs
-
-entry-requires : tie.Need-entry-requires
-entry-requires c κs = search needs
-
-sub-t11 : tie.Need-sub-t11
-sub-t11 c = search needs
+served-code-requires : tie.Need-served-code-requires
+served-code-requires c κs = search needs
 
 returns-2 : tie.Need-returns-2
 unfolding asked pairFound
-returns-2 c =
-    let a = c .before .before .before .args in
-    let code = c .before .before .mirror-code in
-    let i = read-within (a .index .now) (mirrorAt (a .investor) (a .technical)) (λ e. c .before .if1 .left (code .ensures ∙ e)) in
-    let o = c .entry .ensures ∙ read-in (a .index .now) (omnibusAt (a .investor) (a .technical)) i in
-    rw (← code .ensures, ← o, ne-eqb (code .result) 0 (c .before .if1 .left))
+returns-2 c = rw (← c .before .before .before .in-books .ensures, unnot-false (c .before .before .before .in-books .result) (c .before .before .if1 .left), ← c .before .served-code .ensures, c .if2 .taken)
+
+sub-mirror : tie.Need-sub-mirror
+sub-mirror c = search needs
+
+omnibus-beside-requires : tie.Need-omnibus-beside-requires
+omnibus-beside-requires c κs = search needs
+
+returns-3 : tie.Need-returns-3
+unfolding asked pairFound
+returns-3 c =
+    let code = c .before .before .served-code in
+    rw (
+      ← c .before .before .before .before .in-books .ensures,
+      unnot-false (c .before .before .before .before .in-books .result) (c .before .before .before .if1 .left),
+      ← code .ensures,
+      ne-eqb (code .result) 0 (c .before .if2 .left),
+      ← c .omnibus-beside .ensures,
+    )
 
 pub pair-of-spec : {M : Type 1} → statement M
 pair-of-spec =
     tie.close
     (tie.spec
-    mirror-code-requires
+    in-books-requires
     returns
-    mul-place
-    add-place
-    add-entry
-    entry-requires
-    sub-t11
-    returns-2)
+    served-code-requires
+    returns-2
+    sub-mirror
+    omnibus-beside-requires
+    returns-3)

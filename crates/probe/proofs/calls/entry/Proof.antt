@@ -1,5 +1,5 @@
 -- By the command's byte: the desk's entry of the row that its decoder reads.
-use mathlib.Core.Path.{sym, ap, _∙_}
+use mathlib.Core.Path.{_≡_, sym, ap, _∙_}
 use native.Mathlib.Omega.{arith}
 use Rattle.rules.specs.declared.Csd.{Csd}
 use Rattle.rules.specs.declared.Security.{Security}
@@ -71,8 +71,8 @@ returns-5 : tie.Need-returns-5
 returns-5 c =
     let s = c .before .before .before .before .before .before .before in
     let a = s .args in
-    let t = entry-tag (a .tag) (s .pre .0) in
-    entered-by (a .directory) (callOf (a .tag) (a .operands .now)) _ (ap enter (c .before .decode-link .ensures) ∙ sym (link-call (a .tag) (a .operands .now) (omega arith))) (c .enter-link .result) (c .enter-link .ensures)
+    let last : a .tag ≡ 5 = entry-tag (a .tag) (s .pre .0) (λ l h. omega arith) (λ k. k) (λ k. omega arith) in
+    entered-by (a .directory) (callOf (a .tag) (a .operands .now)) _ (ap enter (c .before .decode-link .ensures) ∙ sym (link-call (a .tag) (a .operands .now) last)) (c .enter-link .result) (c .enter-link .ensures)
 
 pub entry-spec : {M : Type 1} → statement M
 entry-spec =

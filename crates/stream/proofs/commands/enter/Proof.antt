@@ -6,7 +6,7 @@ use Rattle.rules.specs.declared.Csd.{Csd}
 use Rattle.rules.specs.declared.Security.{Security}
 use Rattle.rules.specs.Entries.{csdRow, securityRow}
 use Rattle.rules.specs.Calls.{enter}
-use Rattle.wire.proofs.Decoded.{csd-call, security-call, account-call, pair-call, link-call, known-tag}
+use Rattle.wire.proofs.Decoded.{csd-call, security-call, account-call, link-call, known-tag}
 use Rattle.stream.proofs.Obeying.{entry-obeys, row-obeys}
 use borrow.Author.Needs.{needs}
 use Rattle.stream.proofs.commands.enter.Statement.{statement}
@@ -51,32 +51,19 @@ returns-3 c = λ whole.
     row-obeys _ _ (now (a .index)) (now (a .names)) _ (account-call (a .tag) (now (a .operands)) (c .before .before .before .if3 .taken) ∙ ap enter (sym (c .before .decode-account .ensures)))
     (e .0) _ (e .1) refl
 
-decode-pair-requires : tie.Need-decode-pair-requires
-decode-pair-requires c κs = search needs
-
-enter-pair-requires : tie.Need-enter-pair-requires
-enter-pair-requires c κs = search needs
-
-returns-4 : tie.Need-returns-4
-returns-4 c = λ whole.
-    let a = c .before .before .before .before .before .before .before .before .args in
-    let e = c .enter-pair .ensures in
-    row-obeys _ _ (now (a .index)) (now (a .names)) _ (pair-call (a .tag) (now (a .operands)) (c .before .before .before .if4 .taken) ∙ ap enter (sym (c .before .decode-pair .ensures)))
-    (e .0) _ (e .1) refl
-
 decode-link-requires : tie.Need-decode-link-requires
 decode-link-requires c κs = search needs
 
 enter-link-requires : tie.Need-enter-link-requires
 enter-link-requires c κs = search needs
 
-returns-5 : tie.Need-returns-5
-returns-5 c = λ whole.
-    let s = c .before .before .before .before .before .before .before .before in
+returns-4 : tie.Need-returns-4
+returns-4 c = λ whole.
+    let s = c .before .before .before .before .before .before .before in
     let a = s .args in
     let e = c .enter-link .ensures in
     let known = known-tag (a .tag) _ whole in
-    let last : a .tag ≡ 5 = omega (arith, s .pre) in
+    let last : a .tag ≡ 5 = omega (arith, s .pre, known .2) in
     row-obeys _ _ (now (a .index)) (now (a .names)) _ (link-call (a .tag) (now (a .operands)) last ∙ ap enter (sym (c .before .decode-link .ensures)))
     (e .0) _ (e .1) refl
 
@@ -93,9 +80,6 @@ enter-spec =
     decode-account-requires
     enter-account-requires
     returns-3
-    decode-pair-requires
-    enter-pair-requires
-    returns-4
     decode-link-requires
     enter-link-requires
-    returns-5)
+    returns-4)

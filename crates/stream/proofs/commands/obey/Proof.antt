@@ -1,5 +1,10 @@
 -- `stream::commands::obey` meets its contract: the kind that the byte says. Assumes nothing.
+use mathlib.Core.Path.{refl, sym, ap, _∙_}
+use native.Mathlib.Omega.{arith}
 use denote.Ref.{now}
+use Rattle.rules.specs.Calls.{enter}
+use Rattle.wire.proofs.Decoded.{pair-call, known-tag}
+use Rattle.stream.proofs.Obeying.{row-obeys}
 use borrow.Author.Needs.{needs}
 use Rattle.stream.proofs.commands.obey.Statement.{statement}
 use Rattle.stream.proofs.commands.obey.Tie as tie
@@ -47,7 +52,23 @@ same-length-5 : tie.Need-same-length-5
 same-length-5 c = search needs
 
 returns-4 : tie.Need-returns-4
-returns-4 c = λ whole. c .before .before .before .before .instruct .ensures (now (c .before .before .before .before .before .before .before .before .before .before .before .before .before .before .args .names))
+returns-4 c = λ whole.
+    let a = c .before .before .before .before .before .before .before .before .before .before .before .before .before .before .before .args in
+    c .before .before .before .before .instruct .ensures (now (a .names))
+
+decode-pair-requires : tie.Need-decode-pair-requires
+decode-pair-requires c κs = search needs
+
+enter-pair-requires : tie.Need-enter-pair-requires
+enter-pair-requires c κs = search needs
+
+returns-5 : tie.Need-returns-5
+returns-5 c = λ whole.
+    let a = c .before .before .before .before .before .before .before .before .before .args in
+    let e = c .enter-pair .ensures in
+    let known = known-tag (a .tag) _ whole in
+    row-obeys _ _ (now (a .index)) (now (a .names)) _ (pair-call (a .tag) (now (a .operands)) (omega arith) ∙ ap enter (sym (c .before .decode-pair .ensures)))
+    (e .0) _ (e .1) refl (now (a .positions)) (now (a .cash)) (now (a .steps))
 
 pub obey-spec : {M : Type 1} → statement M
 obey-spec =
@@ -65,4 +86,7 @@ obey-spec =
     same-length-3
     same-length-4
     same-length-5
-    returns-4)
+    returns-4
+    decode-pair-requires
+    enter-pair-requires
+    returns-5)

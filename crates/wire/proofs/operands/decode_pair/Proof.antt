@@ -15,8 +15,11 @@ two-bytes-requires c κs = search needs
 two-bytes-requires-2 : tie.Need-two-bytes-requires-2
 two-bytes-requires-2 c κs = search needs
 
+two-bytes-requires-3 : tie.Need-two-bytes-requires-3
+two-bytes-requires-3 c κs = search needs
+
 returns : tie.Need-returns
-returns c = rw (c .before .before .before .one-byte .ensures, c .before .before .one-byte2 .ensures, c .before .two-bytes .ensures, c .two-bytes2 .ensures)
+returns c = rw (c .before .before .before .before .one-byte .ensures, c .before .before .before .one-byte2 .ensures, c .before .before .two-bytes .ensures, c .before .two-bytes2 .ensures, c .two-bytes3 .ensures)
 
 pub decode-pair-spec : {M : Type 1} → statement M
 decode-pair-spec =
@@ -26,4 +29,5 @@ decode-pair-spec =
     one-byte-requires-2
     two-bytes-requires
     two-bytes-requires-2
+    two-bytes-requires-3
     returns)
