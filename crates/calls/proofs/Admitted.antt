@@ -8,7 +8,7 @@ use native.Mathlib.Omega.{arith}
 use Rattle.rules.specs.declared.Directory.{Directory}
 use Rattle.rules.specs.Entries.{sound}
 use Rattle.index.specs.Index.{indexSize, WholeTables}
-use Rattle.entries.specs.Names.{namesSize}
+use Rattle.identifiers.specs.Names.{namesSize}
 use Rattle.entries.specs.Entered.{Kept}
 use Rattle.reading.specs.Read.{Reads, readDirectory, kept, nothingKept}
 use Rattle.reading.proofs.Sounds.{reading-sounds}

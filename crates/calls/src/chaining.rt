@@ -6,7 +6,7 @@ use chain::halves::in_order;
 use chain::step_list::STEP_NUMBERS;
 use chain::step_list::count_of;
 use chain::step_list::step_at;
-use entries::names::NAMES;
+use identifiers::names::NAMES;
 use index::places::INDEX;
 use rules::ACCOUNTS;
 use rules::Answer;

@@ -1,11 +1,11 @@
 // The five entries: the answer, and the directory after it.
 use crate::early_refusal;
-use entries::names::NAMES;
 use entries::refusals::account_refusal;
 use entries::refusals::csd_refusal;
 use entries::refusals::link_refusal;
 use entries::refusals::pair_refusal;
 use entries::refusals::security_refusal;
+use identifiers::names::NAMES;
 use index::places::INDEX;
 use rules::Account;
 use rules::Answer;

@@ -19,7 +19,7 @@ pub use entering::enter_csd;
 pub use entering::enter_link;
 pub use entering::enter_pair;
 pub use entering::enter_security;
-use entries::names::NAMES;
+use identifiers::names::NAMES;
 use index::places::INDEX;
 pub use moving::bring_in;
 pub use moving::cash_total;

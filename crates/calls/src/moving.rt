@@ -3,7 +3,7 @@ use crate::early_refusal;
 use booking::moves::move_securities;
 use booking::payments::move_cash;
 use booking::totals;
-use entries::names::NAMES;
+use identifiers::names::NAMES;
 use index::places::INDEX;
 use rules::ACCOUNTS;
 use rules::Answer;

@@ -14,7 +14,7 @@ use Rattle.rules.proofs.Tables.{added-sized, added-rows}
 use Rattle.rules.proofs.Growth.{keeps-sound}
 use Rattle.index.specs.Index.{Place, Inside, placeOf, numberAt, indexOf, WholeTables}
 use Rattle.index.proofs.Standing.{number-at}
-use Rattle.entries.specs.Names.{Named}
+use Rattle.identifiers.specs.Names.{Named}
 use Rattle.entries.specs.Entered.{Kept, Keeps, counted}
 use Rattle.entries.proofs.Stored.{Store, stored, Change, change-length, change-at}
 

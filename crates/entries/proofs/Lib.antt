@@ -2,14 +2,12 @@ pub mod Laws
 pub mod Stored
 pub mod ByTable
 pub mod OneMore
-pub mod Bytes
 pub mod Growing
 pub mod NewCsd
 pub mod NewSecurity
 pub mod NewAccount
 pub mod NewPair
 pub mod NewLink
-pub mod Identified
 pub mod Refusing
 pub mod Keeping
 pub mod Empty

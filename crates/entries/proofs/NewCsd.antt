@@ -13,12 +13,12 @@ use Rattle.rules.specs.Entries.{csdRow, rowConditions, addRow}
 use Rattle.rules.specs.Demands.{withRow}
 use Rattle.rules.proofs.Basics.{impossible, quiet}
 use Rattle.index.specs.Index.{csdCount, typeAt, indexOf, typeCode}
-use Rattle.entries.specs.Names.{Named, bicSize, isinSize, isins, bicByte}
+use Rattle.index.proofs.Laws.{one-more-row, row-new, row-old}
+use Rattle.identifiers.specs.Names.{Named, bicSize, isinSize, isins, bicByte}
 use Rattle.entries.specs.Entered.{Kept, Keeps, withCsd, withBic, withRowIn}
 use Rattle.entries.proofs.Stored.{Store, Change}
 use Rattle.entries.proofs.ByTable.{OfCsds, Same, every-place, same-securities, same-accounts, same-pairs, same-links}
-use Rattle.entries.proofs.OneMore.{one-more-row, row-new, row-old}
-use Rattle.entries.proofs.Bytes.{bytes-length, bytes-other, name-added}
+use Rattle.identifiers.proofs.Bytes.{bytes-length, bytes-other, name-added}
 use Rattle.entries.proofs.Growing.{not-full, number-is, grown}
 
 -- its number

@@ -20,10 +20,11 @@ use Rattle.rules.proofs.Facts.{Facts}
 use Rattle.rules.proofs.NewLinks.{NewLink, accepted-link}
 use Rattle.index.specs.Index.{Place, linkCount, routeAt, issuanceAt, linkAt, indexOf, issuerCode}
 use Rattle.index.proofs.LookingUp.{facts, csd-small}
+use Rattle.index.proofs.Laws.{one-more-row}
 use Rattle.entries.specs.Entered.{Kept, Keeps, withIssuer, withInvestor, withLink, withRowIn}
 use Rattle.entries.proofs.Stored.{Store, Right, Apart, Change}
 use Rattle.entries.proofs.ByTable.{OfLinks, Same, every-place, same-csds, same-securities, same-accounts, same-pairs}
-use Rattle.entries.proofs.OneMore.{one-more-row, any-kept, any-new, any-narrower, find-kept, find-new}
+use Rattle.entries.proofs.OneMore.{any-kept, any-new, any-narrower, find-kept, find-new}
 use Rattle.entries.proofs.Growing.{not-full, same-names, grown}
 
 -- the numbers of an issuer, of a default link, and of an alternative

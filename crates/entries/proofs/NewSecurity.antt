@@ -13,12 +13,12 @@ use Rattle.rules.specs.Entries.{securityRow, rowConditions, addRow}
 use Rattle.rules.specs.Demands.{withRow}
 use Rattle.rules.proofs.Basics.{quiet}
 use Rattle.index.specs.Index.{securityCount, indexOf}
-use Rattle.entries.specs.Names.{Named, bicSize, isinSize, isins, isinByte}
+use Rattle.index.proofs.Laws.{one-more-row}
+use Rattle.identifiers.specs.Names.{Named, bicSize, isinSize, isins, isinByte}
 use Rattle.entries.specs.Entered.{Kept, Keeps, withSecurity, withIsin, withRowIn}
 use Rattle.entries.proofs.Stored.{Change}
 use Rattle.entries.proofs.ByTable.{Same, every-place, same-csds, same-accounts, same-pairs, same-links}
-use Rattle.entries.proofs.OneMore.{one-more-row}
-use Rattle.entries.proofs.Bytes.{bytes-length, bytes-other, name-added}
+use Rattle.identifiers.proofs.Bytes.{bytes-length, bytes-other, name-added}
 use Rattle.entries.proofs.Growing.{not-full, number-is, grown}
 
 module _ (r : Rows) (x : Security) (few : length (r .securities) < securityLimit) where

@@ -1,30 +1,11 @@
--- A table with one row more behind: the row by its number, and the searches.
-use mathlib.Core.Path.{_≡_, refl, ap}
-use mathlib.Core.Logic.{_≢_}
+-- The searches of a table with one row more behind.
+use mathlib.Core.Path.{_≡_, refl}
 use mathlib.Core.Bool.{Bool, true, false, cond}
 use mathlib.Core.List.{List, [], _∷_, _++_}
 use mathlib.Core.Option.{some}
-use Prim.Native.Nat.{ℕ, zero, suc, _+_}
-use lib.ListN.{length, getElem?, length-append}
 use Rattle.rules.specs.Tests.{any, find}
 use Rattle.rules.proofs.Basics.{impossible, or-right, or-none}
 
--- ---- by number
-module _ {A : Type 0} where
-  pub one-more-row : (l : List A) (x : A) → length (l ++ (x ∷ [])) ≡ length l + 1
-  one-more-row l x = length-append l (x ∷ [])
-
-  pub row-new : (l : List A) (x : A) → getElem? (l ++ (x ∷ [])) (length l) ≡ some x
-  row-new [] x = refl
-  row-new (y ∷ l) x = row-new l x
-
-  pub row-old : (l : List A) (x : A) (i : ℕ) → i ≢ length l → getElem? (l ++ (x ∷ [])) i ≡ getElem? l i
-  row-old [] x zero h = absurd (h refl)
-  row-old [] x (suc i) h = refl
-  row-old (y ∷ l) x zero h = refl
-  row-old (y ∷ l) x (suc i) h = row-old l x i (λ e. h (ap suc e))
-
--- ---- by a test
 module _ {A : Type 0} (t : A → Bool) (x : A) where
   pub any-kept : (xs : List A) → t x ≡ false → any t (xs ++ (x ∷ [])) ≡ any t xs
   any-kept [] e = rw e

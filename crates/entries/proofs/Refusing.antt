@@ -7,12 +7,12 @@ use Rattle.rules.specs.Entries.{Row, csdRow, securityRow, accountRow, pairRow, 
 use Rattle.index.specs.Index.{csdCount, securityCount}
 use Rattle.index.proofs.Answers.{reads, answers}
 use Rattle.entries.specs.Entered.{Kept, Keeps, csdRefusalIn, securityRefusalIn, accountRefusalIn, pairRefusalIn, linkRefusalIn, refusalIn}
-use Rattle.entries.proofs.Identified.{bics-found, isins-found}
+use Rattle.identifiers.proofs.Identified.{bics-found, isins-found}
 
 pub refusal-is : (k : Kept) (d : Directory) (x : Row) → Keeps k d → refusalIn k x ≡ firstOf (rowConditions (rowsOf d) x)
 unfolding csdRefusalIn securityRefusalIn accountRefusalIn pairRefusalIn linkRefusalIn isFull
-refusal-is k d (csdRow x) h = rw (reads (h .indexed) csdCount, bics-found k d h (x .bic))
-refusal-is k d (securityRow x) h = rw (reads (h .indexed) securityCount, isins-found k d h (x .isin))
+refusal-is k d (csdRow x) h = rw (reads (h .indexed) csdCount, bics-found (h .indexed) (h .named) (x .bic))
+refusal-is k d (securityRow x) h = rw (reads (h .indexed) securityCount, isins-found (h .indexed) (h .named) (x .isin))
 refusal-is k d (accountRow x) h = ap (λ q. firstOf (accountConditions q x)) (answers (k .numbers) d (h .indexed))
 refusal-is k d (pairRow x) h = ap (λ q. firstOf (pairConditions q x)) (answers (k .numbers) d (h .indexed))
 refusal-is k d (linkRow x) h = ap (λ q. firstOf (linkConditions q x)) (answers (k .numbers) d (h .indexed))

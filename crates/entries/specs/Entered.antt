@@ -19,7 +19,7 @@ use Rattle.rules.specs.Directory.{rowsOf, csdLimit, securityLimit, noAccount}
 use Rattle.rules.specs.Entries.{Row, csdRow, securityRow, accountRow, pairRow, linkRow, csdConditions, securityConditions, accountConditions, pairConditions, linkConditions, rowConditions, addRow}
 use Rattle.index.specs.Index.{Indexed, Place, csdCount, securityCount, accountCount, pairCount, linkCount, placeOf, types, homes, kinds, mirrors, omnibuses, investors, technicals, served, routes, issuances, linked, issuerCode, numberAt, withNumber}
 use Rattle.index.specs.Asked.{read, asked}
-use Rattle.entries.specs.Names.{bicSize, isinSize, isins, bicIn, isinIn, withBytes, Named}
+use Rattle.identifiers.specs.Names.{bicSize, isinSize, isins, bicIn, isinIn, withBytes, Named}
 
 -- What is kept of a directory: the numbers of its index, and the bytes of its identifiers.
 pub record Kept : Type 0 where

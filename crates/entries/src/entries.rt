@@ -1,12 +1,12 @@
 // The five entries of document 01 over an index: each adds its row's numbers and bytes, or refuses and changes nothing.
-use crate::names::ISINS;
-use crate::names::NAMES;
-use crate::names::put_bytes;
 use crate::refusals::account_refusal;
 use crate::refusals::csd_refusal;
 use crate::refusals::link_refusal;
 use crate::refusals::pair_refusal;
 use crate::refusals::security_refusal;
+use identifiers::names::NAMES;
+use identifiers::names::put_bic;
+use identifiers::names::put_isin;
 use index::places::ACCOUNT_COUNT;
 use index::places::CSD_COUNT;
 use index::places::HOMES;
@@ -29,10 +29,8 @@ use index::places::entry;
 use index::places::store;
 use rules::Account;
 use rules::Answer;
-use rules::BIC;
 use rules::CSDS;
 use rules::Csd;
-use rules::ISIN;
 use rules::Link;
 use rules::NO_ACCOUNT;
 use rules::Pair;
@@ -68,10 +66,10 @@ pub fn add_csd(index: &mut [u16; INDEX], names: &mut [u8; NAMES], row: Csd)
     ensures { λ _. ⌜ (now (index .exit) ≡ withCsd row (now (index .entry)))
         × (now (names .exit) ≡ withBic row (numberAt (now (index .entry)) (placeOf csdCount)) (now (names .entry))) ⌝ }
 {
-    let n = entry(index, CSD_COUNT) as usize;
+    let n = entry(index, CSD_COUNT);
     let bic = row.bic;
-    put_bytes(names, BIC * n, &bic);
-    store(index, TYPES + n, (row.external as u16) + 1);
+    put_bic(names, n, bic);
+    store(index, TYPES + (n as usize), (row.external as u16) + 1);
     count_on(index, CSD_COUNT);
 }
 
@@ -80,9 +78,9 @@ pub fn add_security(index: &mut [u16; INDEX], names: &mut [u8; NAMES], row: Secu
     ensures { λ _. ⌜ (now (index .exit) ≡ withSecurity row (now (index .entry)))
         × (now (names .exit) ≡ withIsin row (numberAt (now (index .entry)) (placeOf securityCount)) (now (names .entry))) ⌝ }
 {
-    let n = entry(index, SECURITY_COUNT) as usize;
+    let n = entry(index, SECURITY_COUNT);
     let isin = row.isin;
-    put_bytes(names, ISINS + ISIN * n, &isin);
+    put_isin(names, n, isin);
     count_on(index, SECURITY_COUNT);
 }
 

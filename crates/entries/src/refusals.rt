@@ -1,10 +1,10 @@
 // Whether a row may be entered after the rows before it: the refusals 5 to 11 of document 01, the first that applies, 0 for none.
-use crate::identifiers::is_bic;
-use crate::identifiers::is_isin;
-use crate::identifiers::isin_checks;
-use crate::names::NAMES;
-use crate::names::bic_entered;
-use crate::names::isin_entered;
+use identifiers::check_digit::isin_checks;
+use identifiers::forms::is_bic;
+use identifiers::forms::is_isin;
+use identifiers::names::NAMES;
+use identifiers::names::bic_entered;
+use identifiers::names::isin_entered;
 use index::lookups::accounts_full;
 use index::lookups::has_investor;
 use index::lookups::has_issuer;

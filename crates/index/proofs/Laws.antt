@@ -1,11 +1,11 @@
 -- Laws that proofs share: tests of every number below another, the length of a table, and its rows in use.
 use Prim.Native.Nat.{ℕ, zero, suc, _+_, _≤_, _<_, min}
-use mathlib.Core.Path.{_≡_, refl, sym, _∙_}
-use mathlib.Core.Logic.{⊎-elim}
+use mathlib.Core.Path.{_≡_, refl, sym, ap, _∙_}
+use mathlib.Core.Logic.{_≢_, ⊎-elim}
 use mathlib.Core.Bool.{Bool, true, false, and-false}
-use mathlib.Core.List.{List, [], _∷_, map}
-use mathlib.Core.Option.{none}
-use lib.ListN.{length, getD, take, drop, getElem?, length-map, length-take, drop-of-length-le}
+use mathlib.Core.List.{List, [], _∷_, _++_, map}
+use mathlib.Core.Option.{none, some}
+use lib.ListN.{length, getD, take, drop, getElem?, length-map, length-take, length-append, drop-of-length-le}
 use lib.Seq.{drop-cons, getD-take}
 use native.Mathlib.Omega.{arith}
 use native.Mathlib.Numerals.{add-one}
@@ -31,6 +31,21 @@ pub unknown : {A : Type 0} (l : List A) (i : ℕ) → length l ≤ i → getElem
 unknown [] i h = refl
 unknown (x ∷ l) zero h = absurd (omega arith)
 unknown (x ∷ l) (suc i) h = unknown l i (omega arith)
+
+-- with one row more behind
+module _ {A : Type 0} where
+  pub one-more-row : (l : List A) (x : A) → length (l ++ (x ∷ [])) ≡ length l + 1
+  one-more-row l x = length-append l (x ∷ [])
+
+  pub row-new : (l : List A) (x : A) → getElem? (l ++ (x ∷ [])) (length l) ≡ some x
+  row-new [] x = refl
+  row-new (y ∷ l) x = row-new l x
+
+  pub row-old : (l : List A) (x : A) (i : ℕ) → i ≢ length l → getElem? (l ++ (x ∷ [])) i ≡ getElem? l i
+  row-old [] x zero h = absurd (h refl)
+  row-old [] x (suc i) h = refl
+  row-old (y ∷ l) x zero h = refl
+  row-old (y ∷ l) x (suc i) h = row-old l x i (λ e. h (ap suc e))
 
 -- ---- the first n rows of a table, of which i are passed
 module _ {A : Type 0} (l : List A) (n i : ℕ) where

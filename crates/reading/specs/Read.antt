@@ -8,7 +8,7 @@ use Rattle.rules.specs.declared.Directory.{Directory}
 use Rattle.rules.specs.Directory.{Rows, rowsOf}
 use Rattle.rules.specs.Entries.{Row, csdRow, securityRow, accountRow, pairRow, linkRow, withinLimits, sound}
 use Rattle.index.specs.Index.{indexSize, WholeTables}
-use Rattle.entries.specs.Names.{namesSize}
+use Rattle.identifiers.specs.Names.{namesSize}
 use Rattle.entries.specs.Entered.{Kept, Keeps, refusalIn, withRowIn}
 
 -- Whether every row was accepted, and what is kept after the last that was.

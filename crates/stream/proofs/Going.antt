@@ -23,7 +23,7 @@ use Rattle.text.specs.Appended.{Appended}
 use Rattle.text.proofs.Appends.{Fitted, fits, further, named}
 use Rattle.text.proofs.Lengths.{short-total, short-cash}
 use Rattle.index.specs.Index.{indexSize}
-use Rattle.entries.specs.Names.{namesSize}
+use Rattle.identifiers.specs.Names.{namesSize}
 use Rattle.entries.proofs.Empty.{keeps-empty}
 use Rattle.chain.specs.StepList.{stepNumbers}
 use Rattle.stream.specs.declared.turns.Turn.{Turn}

@@ -25,9 +25,9 @@ use Rattle.rules.proofs.Running.{Ready}
 use Rattle.index.specs.Index.{securityCount, placeOf, numberAt}
 use Rattle.index.specs.Asked.{read, asked}
 use Rattle.index.proofs.Answers.{answers}
-use Rattle.entries.specs.Names.{isinOf}
+use Rattle.identifiers.specs.Names.{isinOf}
 use Rattle.entries.specs.Entered.{Kept, Keeps}
-use Rattle.entries.proofs.Identified.{isin-shown}
+use Rattle.identifiers.proofs.Identified.{isin-shown}
 use Rattle.stream.specs.Obeyed.{Held, Holds}
 use Rattle.stream.specs.Ending.{unitsIn, centsIn, totalIn, totalsIn, securitiesIn, endingIn, Totalled}
 use Rattle.stream.proofs.Keeping.{Bounded}
@@ -85,7 +85,7 @@ module _ (k : Kept) (st : Store) (h : Keeps k (st .directory)) (t : Totalled st)
 
   line-is : (s : ℕ) (d : Security) → s < length (rows .securities) → totalIn k (st .positions) s ≡ line (rows .accounts) (st .positions) s (getD (rows .securities) s d)
   unfolding totalLine
-  line-is s d l = rw (isin-shown k (st .directory) h s (getD (rows .securities) s d) (row-at (rows .securities) s d l), sum-is s l)
+  line-is s d l = rw (isin-shown (h .indexed) (h .named) s (getD (rows .securities) s d) (row-at (rows .securities) s d l), sum-is s l)
 
   lines-are : (n : ℕ) → n ≤ length (rows .securities) → totalsIn k (st .positions) n ≡ totalLines (rows .accounts) (st .positions) 0 (take n (rows .securities))
   unfolding totalsIn totalLines

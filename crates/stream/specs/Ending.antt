@@ -17,7 +17,7 @@ use Rattle.rules.specs.Calls.{Store}
 use Rattle.rules.specs.Stream.{totalLine, cashLine}
 use Rattle.index.specs.Index.{securityCount}
 use Rattle.index.specs.Asked.{read, asked}
-use Rattle.entries.specs.Names.{isinOf}
+use Rattle.identifiers.specs.Names.{isinOf}
 use Rattle.entries.specs.Entered.{Kept}
 use Rattle.booking.specs.Sums.{securityTotal, cashTotal}
 

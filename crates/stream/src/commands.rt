@@ -11,7 +11,7 @@ use entries::entries::enter_csd;
 use entries::entries::enter_link;
 use entries::entries::enter_pair;
 use entries::entries::enter_security;
-use entries::names::NAMES;
+use identifiers::names::NAMES;
 use index::places::INDEX;
 use rules::Answer;
 use rules::Half;

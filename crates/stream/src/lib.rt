@@ -3,8 +3,8 @@
 use booking::totals::cash_total;
 use booking::totals::security_total;
 use chain::step_list::STEP_NUMBERS;
-use entries::names::NAMES;
-use entries::names::isin_of;
+use identifiers::names::NAMES;
+use identifiers::names::isin_of;
 use index::places::INDEX;
 use index::places::SECURITY_COUNT;
 use index::places::entry;

@@ -2,7 +2,7 @@
 use crate::commands::obey;
 use chain::step_list::count_of;
 use chain::step_list::step_at;
-use entries::names::NAMES;
+use identifiers::names::NAMES;
 use index::places::INDEX;
 use rules::Answer;
 use text::lines::put_line;

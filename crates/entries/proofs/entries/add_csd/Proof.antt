@@ -3,7 +3,7 @@ use mathlib.Core.Path.{_≡_, _∙_}
 use lib.ListN.{length}
 use lib.Seq.{take-all}
 use native.Mathlib.Omega.{arith}
-use Rattle.entries.specs.Names.{bicSize}
+use Rattle.identifiers.specs.Names.{bicSize}
 use Rattle.entries.specs.Entered.{counted, withCsd, withBic}
 use borrow.Author.Needs.{needs}
 use Rattle.entries.proofs.entries.add_csd.Statement.{statement}
@@ -15,25 +15,17 @@ whole-bic s = search needs
 entry-requires : tie.Need-entry-requires
 entry-requires c κs = search needs
 
-cast-n : tie.Need-cast-n
-cast-n c = search needs
+put-bic-requires : tie.Need-put-bic-requires
+put-bic-requires c κs = search needs
 
-mul-put-bytes : tie.Need-mul-put-bytes
-mul-put-bytes c = search needs
-
-slice-aggregate-put-bytes : tie.Need-slice-aggregate-put-bytes
-slice-aggregate-put-bytes c = search needs
-
-put-bytes-requires : tie.Need-put-bytes-requires
-put-bytes-requires c κs =
-    let long = whole-bic (c .before .before .before .before .before) in
-    (omega arith, omega arith)
+cast-store : tie.Need-cast-store
+cast-store c = search needs
 
 add-store : tie.Need-add-store
 add-store c = search needs
 
-cast-store : tie.Need-cast-store
-cast-store c = search needs
+cast-store-2 : tie.Need-cast-store-2
+cast-store-2 c = search needs
 
 add-store-2 : tie.Need-add-store-2
 add-store-2 c = search needs
@@ -48,10 +40,10 @@ returns : tie.Need-returns
 unfolding counted withCsd withBic
 returns c =
     let put = c .before .before .before .before .before in
-    let reading = put .before .before .before .before in
+    let reading = put .before .before .before in
     let start = reading .before .before in (
       c .count-on .ensures ∙ rw (c .before .before .store .ensures, reading .entry .ensures),
-      put .put-bytes .ensures ∙ rw (reading .entry .ensures, take-all bicSize (start .args .row .bic) (omega (arith, whole-bic start))),
+      put .put-bic .ensures ∙ rw (reading .entry .ensures, take-all bicSize (start .args .row .bic) (omega (arith, whole-bic start))),
     )
 
 pub add-csd-spec : {M : Type 1} → statement M
@@ -59,12 +51,10 @@ add-csd-spec =
     tie.close
     (tie.spec
     entry-requires
-    cast-n
-    mul-put-bytes
-    slice-aggregate-put-bytes
-    put-bytes-requires
-    add-store
+    put-bic-requires
     cast-store
+    add-store
+    cast-store-2
     add-store-2
     store-requires
     count-on-requires

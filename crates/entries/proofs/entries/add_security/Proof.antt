@@ -3,7 +3,7 @@ use mathlib.Core.Path.{_≡_, _∙_}
 use lib.ListN.{length}
 use lib.Seq.{take-all}
 use native.Mathlib.Omega.{arith}
-use Rattle.entries.specs.Names.{isinSize}
+use Rattle.identifiers.specs.Names.{isinSize}
 use Rattle.entries.specs.Entered.{counted, withSecurity, withIsin}
 use borrow.Author.Needs.{needs}
 use Rattle.entries.proofs.entries.add_security.Statement.{statement}
@@ -15,22 +15,8 @@ whole-isin s = search needs
 entry-requires : tie.Need-entry-requires
 entry-requires c κs = search needs
 
-cast-n : tie.Need-cast-n
-cast-n c = search needs
-
-mul-put-bytes : tie.Need-mul-put-bytes
-mul-put-bytes c = search needs
-
-add-put-bytes : tie.Need-add-put-bytes
-add-put-bytes c = search needs
-
-slice-aggregate-put-bytes : tie.Need-slice-aggregate-put-bytes
-slice-aggregate-put-bytes c = search needs
-
-put-bytes-requires : tie.Need-put-bytes-requires
-put-bytes-requires c κs =
-    let long = whole-isin (c .before .before .before .before .before) in
-    (omega arith, omega arith)
+put-isin-requires : tie.Need-put-isin-requires
+put-isin-requires c κs = search needs
 
 count-on-requires : tie.Need-count-on-requires
 count-on-requires c κs = search needs
@@ -39,21 +25,11 @@ returns : tie.Need-returns
 unfolding counted withSecurity withIsin
 returns c =
     let put = c .before .before in
-    let reading = put .before .before .before .before in
+    let reading = put .before .before .before in
     let start = reading .before .before in (
       c .count-on .ensures,
-      put .put-bytes .ensures ∙ rw (reading .entry .ensures, take-all isinSize (start .args .row .isin) (omega (arith, whole-isin start))),
+      put .put-isin .ensures ∙ rw (reading .entry .ensures, take-all isinSize (start .args .row .isin) (omega (arith, whole-isin start))),
     )
 
 pub add-security-spec : {M : Type 1} → statement M
-add-security-spec =
-    tie.close
-    (tie.spec
-    entry-requires
-    cast-n
-    mul-put-bytes
-    add-put-bytes
-    slice-aggregate-put-bytes
-    put-bytes-requires
-    count-on-requires
-    returns)
+add-security-spec = tie.close (tie.spec entry-requires put-isin-requires count-on-requires returns)

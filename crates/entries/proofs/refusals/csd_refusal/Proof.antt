@@ -9,7 +9,7 @@ use Rattle.rules.specs.Directory.{csdLimit}
 use Rattle.rules.specs.Entries.{csdConditions}
 use Rattle.index.specs.Index.{csdCount}
 use Rattle.index.specs.Asked.{read}
-use Rattle.entries.specs.Names.{bicIn}
+use Rattle.identifiers.specs.Names.{bicIn}
 use Rattle.entries.specs.Entered.{csdRefusalIn}
 use borrow.Author.Needs.{needs}
 use Rattle.entries.proofs.refusals.csd_refusal.Statement.{statement}

@@ -9,7 +9,7 @@ use Rattle.rules.specs.Directory.{securityLimit}
 use Rattle.rules.specs.Entries.{securityConditions}
 use Rattle.index.specs.Index.{securityCount}
 use Rattle.index.specs.Asked.{read}
-use Rattle.entries.specs.Names.{isinIn}
+use Rattle.identifiers.specs.Names.{isinIn}
 use Rattle.entries.specs.Entered.{securityRefusalIn}
 use borrow.Author.Needs.{needs}
 use Rattle.entries.proofs.refusals.security_refusal.Statement.{statement}

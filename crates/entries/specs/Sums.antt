@@ -1,6 +1,0 @@
--- The sums that the code keeps while it reads an ISIN, as the sums of the definitions.
-use Rattle.rules.specs.Identifiers.{Sums}
-use Rattle.entries.specs.declared.identifiers.Sums.{Sums as Kept}
-
-abbrev pub sumsOf : Kept → Sums
-sumsOf s = record { last = s .last; other = s .other }
