@@ -54,6 +54,34 @@ mod tests {
         assert!(!well_formed(b"US037833100A") && !well_formed(b"1S0378331005"));
     }
 
+    /// The rule word by word: the digits are written down, then added up from the right.
+    fn as_worded(isin: &Isin) -> bool {
+        let written: String =
+            isin[..11].iter().map(|&byte| char::from(byte).to_digit(36).unwrap().to_string()).collect();
+        let digits = written.bytes().rev().map(|byte| u32::from(byte - b'0'));
+        let added = |digit: u32| digit / 10 + digit % 10;
+        let sum: u32 =
+            digits.enumerate().map(|(place, digit)| if place % 2 == 0 { added(2 * digit) } else { digit }).sum();
+        (sum + u32::from(isin[11] - b'0')) % 10 == 0
+    }
+
+    /// Letters and digits in the eleven places before the check digit, in each of the 2,048 ways.
+    #[test]
+    fn the_rule_as_worded() {
+        for letters in 0..1_usize << 11 {
+            let character = |place: usize| match letters >> place & 1 {
+                1 => b'A' + ((7 * letters + 5 * place) % 26) as u8,
+                _ => b'0' + ((3 * letters + place) % 10) as u8,
+            };
+            let body: [u8; 11] = std::array::from_fn(character);
+            for digit in b'0'..=b'9' {
+                let mut isin = [digit; 12];
+                isin[..11].copy_from_slice(&body);
+                assert_eq!(sum_fits(&isin), as_worded(&isin), "{}", String::from_utf8_lossy(&isin));
+            }
+        }
+    }
+
     #[test]
     fn one_check_digit_fits_each_body() {
         for body in [b"AA000000000", b"ZZZZZZZZZZZ", b"FR0A1B2C3D4"] {

@@ -4,7 +4,7 @@
 use checker::booking::SidedHalf;
 use checker::chain::Step;
 use checker::command::{Command, Reader};
-use checker::directory::{Bic, Csd, Pair};
+use checker::directory::{Bic, Csd, Isin, Pair};
 use checker::trial::climbs::{Found, Source, Turn};
 use checker::trial::coverage::Coverage;
 use checker::trial::implementation::{Answer, Call, Implementation, Model, Program, Store};
@@ -643,6 +643,67 @@ mod segregated {
         let caught = (1..1000).find_map(|seed| differential::text_of(&streams::stream(seed), &mut Former).err());
         println!("{caught:?}");
         assert!(caught.is_some());
+    }
+}
+
+/// Document 02, ask 4: "ISIN digits without the scratch copy".
+mod isins {
+    use super::*;
+
+    /// The numbers of the characters before the check digit, from the right: 0 to 9 of digits, 10 to 35 of letters.
+    fn numbers(isin: &Isin) -> impl Iterator<Item = u32> + '_ {
+        isin[..11].iter().rev().map(|&byte| char::from(byte).to_digit(36).unwrap())
+    }
+
+    /// The digit as it counts at a place, every other one doubled.
+    fn counted(place: usize, digit: u32) -> u32 {
+        if place % 2 == 0 {
+            2 * digit / 10 + 2 * digit % 10
+        } else {
+            digit
+        }
+    }
+
+    /// Securities whose check digit completes another sum than the rule's.
+    fn caught_by(sum: fn(&Isin) -> u32) {
+        is_caught(|call, before, store, answer| {
+            let Call::Command(Command::EnterSecurity(new)) = call else { return answer };
+            let fits = |isin: &Isin| (sum(isin) + u32::from(isin[11] - b'0')) % 10 == 0;
+            match answer {
+                Answer::Accepted if !fits(&new.isin) => {
+                    store.clone_from(before);
+                    Answer::Refused(8)
+                }
+                Answer::Refused(8) if fits(&new.isin) => {
+                    let table = &mut store.directory.securities;
+                    table.rows[table.count] = *new;
+                    table.count += 1;
+                    Answer::Accepted
+                }
+                _ => answer,
+            }
+        });
+    }
+
+    #[test]
+    fn a_letter_takes_one_place() {
+        caught_by(|isin| {
+            let counts = numbers(isin).enumerate();
+            counts.map(|(place, number)| counted(place, number / 10) + counted(place, number % 10)).sum()
+        });
+    }
+
+    #[test]
+    fn a_letter_is_one_digit() {
+        caught_by(|isin| numbers(isin).enumerate().map(|(place, number)| counted(place, number)).sum());
+    }
+
+    #[test]
+    fn the_first_digit_from_the_left_is_doubled() {
+        caught_by(|isin| {
+            let written: String = isin[..11].iter().map(|&b| char::from(b).to_digit(36).unwrap().to_string()).collect();
+            written.bytes().enumerate().map(|(place, byte)| counted(place, u32::from(byte - b'0'))).sum()
+        });
     }
 }
 

@@ -53,6 +53,11 @@ pub const BICS: [(&str, &[u8]); 6] = [
     ("a branch beside XXX", &[0]),
 ];
 
+/// How many letters a new ISIN has before its check digit, each of which becomes two digits, with what it can be
+/// answered where it is neither 5 nor 7; 0 stands for acceptance.
+pub const ISINS: [(&str, &[u8]); 2] =
+    [("an even number of letters", &[0, 8, 9]), ("an odd number of letters", &[0, 8, 9])];
+
 /// The flaws that make a directory unsound, by table: 5 is a count beyond the limit.
 pub const FLAWS: [(&str, &[u8]); 5] = [
     ("CSDs", &[5, 7, 9]),
@@ -86,6 +91,7 @@ pub struct Coverage {
     answers: BTreeMap<(&'static str, u8), u64>,
     sides: BTreeMap<(&'static str, u8), u64>,
     bics: BTreeMap<(&'static str, u8), u64>,
+    isins: BTreeMap<(&'static str, u8), u64>,
     flaws: BTreeMap<(&'static str, u8), u64>,
     chains: BTreeMap<(&'static str, ChainKind, usize), u64>,
     pairs: BTreeMap<(&'static str, u8), u64>,
@@ -158,6 +164,10 @@ impl Coverage {
                     *self.bics.entry((name, number)).or_default() += 1;
                 }
             }
+            (Command::EnterSecurity(new), 0 | 8 | 9) => {
+                let letters = new.isin[..11].iter().filter(|byte| byte.is_ascii_uppercase()).count();
+                *self.isins.entry((ISINS[letters % 2].0, number)).or_default() += 1;
+            }
             (Command::EnterPair(new), _) => {
                 let (_, ways) = pairing::due(rows, new);
                 for name in ways.iter().filter(|_| number == 0 || ways.len() == 1) {
@@ -209,7 +219,7 @@ impl Coverage {
     pub fn of_streams(&self) -> Vec<String> {
         let expected = COMMANDS.iter().flat_map(|&(_, name, refusals, _)| numbered(name, &[refusals, &[0]].concat()));
         let wrong = compare(&self.answers, expected.chain([(UNKNOWN, 1), (FORMER, 1)]).collect());
-        [wrong, self.sides_missing(), self.bics_missing(), self.rows_missing(), self.chains_missing()].concat()
+        [wrong, self.sides_missing(), self.names_missing(), self.rows_missing(), self.chains_missing()].concat()
     }
 
     /// The same for single calls.
@@ -222,15 +232,20 @@ impl Coverage {
         let flaws = FLAWS.iter().flat_map(|&(table, numbers)| numbered(table, numbers));
         let wrong = compare(&self.answers, commands.chain(totals).collect());
         let flaws = compare(&self.flaws, flaws.collect());
-        [wrong, self.sides_missing(), self.bics_missing(), self.rows_missing(), flaws].concat()
+        [wrong, self.sides_missing(), self.names_missing(), self.rows_missing(), flaws].concat()
     }
 
     fn sides_missing(&self) -> Vec<String> {
         compare(&self.sides, SIDES.iter().flat_map(|&(name, numbers)| numbered(name, numbers)).collect())
     }
 
-    fn bics_missing(&self) -> Vec<String> {
-        compare(&self.bics, BICS.iter().flat_map(|&(name, numbers)| numbered(name, numbers)).collect())
+    /// BICs and ISINs.
+    fn names_missing(&self) -> Vec<String> {
+        [
+            compare(&self.bics, BICS.iter().flat_map(|&(name, numbers)| numbered(name, numbers)).collect()),
+            compare(&self.isins, ISINS.iter().flat_map(|&(name, numbers)| numbered(name, numbers)).collect()),
+        ]
+        .concat()
     }
 
     /// Pair rows: each way in which one can be answered, and each way in which one is found.
@@ -281,7 +296,8 @@ fn numbered(name: &'static str, numbers: &[u8]) -> Vec<(&'static str, u8)> {
 
 impl Display for Coverage {
     fn fmt(&self, formatter: &mut Formatter) -> fmt::Result {
-        for ((name, number), times) in self.answers.iter().chain(&self.sides).chain(&self.bics).chain(&self.pairs) {
+        let named = self.answers.iter().chain(&self.sides).chain(&self.bics).chain(&self.isins).chain(&self.pairs);
+        for ((name, number), times) in named {
             let answer = if *number == 0 { "accepted".into() } else { format!("no {number}") };
             writeln!(formatter, "{name:48} {answer:9} {times:9}")?;
         }

@@ -1,6 +1,6 @@
 //! Inputs that are worth keeping: every refusal of every command, chains of every kind and length, sided halves
-//! in either order, branches, segregated holdings, the ends of the input's length, damaged streams, and large sums. The
-//! model's transcripts are their outputs.
+//! in either order, branches, check digits, segregated holdings, the ends of the input's length, damaged streams, and
+//! large sums. The model's transcripts are their outputs.
 
 use super::busy;
 use super::forms::{Form, FORMS};
@@ -31,6 +31,7 @@ pub fn vectors() -> Vec<(&'static str, Vec<u8>)> {
         ("sided-cut-by-one", cut_or_unknown(&[0x0C; 42])),
         ("sided-cut-before-second-half", cut_or_unknown(&[0x0D; 22])),
         ("branches", branches()),
+        ("check-digits", check_digits()),
         ("segregated-chains", segregated::chains()),
         ("segregated-refusals", segregated::refusals()),
         ("served-omnibus", segregated::served_omnibus()),
@@ -144,6 +145,37 @@ fn branches() -> Vec<u8> {
     scenario.serve(to, 0, 0);
     scenario.bring_in(from, security, 100).ok();
     scenario.settle(from, to, security, 40, 0).ok();
+    scenario.bytes
+}
+
+/// Every check digit for each of 15 ISINs: three that are in use, the fewest and the most letters, and one letter in each
+/// place. One digit fits, the others are 8.
+fn check_digits() -> Vec<u8> {
+    let bodies = [
+        b"US037833100",
+        b"DE000BAY001",
+        b"AU0000XVGZA",
+        b"XS000000000",
+        b"AAAAAAAAAAA",
+        b"ZZZZZZZZZZZ",
+        b"XSB12345678",
+        b"XS1C2345678",
+        b"XS12D345678",
+        b"XS123E45678",
+        b"XS1234F5678",
+        b"XS12345K678",
+        b"XS123456T78",
+        b"XS1234567U8",
+        b"XS12345678Y",
+    ];
+    let mut scenario = Scenario::default();
+    for body in bodies {
+        for digit in b'0'..=b'9' {
+            let mut isin = [digit; 12];
+            isin[..11].copy_from_slice(body);
+            scenario.send(Command::EnterSecurity(Security { isin })).ok();
+        }
+    }
     scenario.bytes
 }
 

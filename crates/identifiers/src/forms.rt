@@ -7,7 +7,7 @@ ghost use lib.ListN.{length, getD};
 ghost use Rattle.rules.specs.Tests.{allBelow};
 ghost use Rattle.rules.specs.Identifiers.{capital, digit, capitalOrDigit, isBic, isIsin};
 
-pub fn is_capital(c: u8) -> bool
+pub(crate) fn is_capital(c: u8) -> bool
     ensures { λ r. ⌜ r ≡ capital c ⌝ }
 {
     (b'A' <= c) & (c <= b'Z')

@@ -1,6 +1,6 @@
 -- The customer's three demands, and what document 02 asks to be shown, proved of the definitions with no hypothesis left.
 use Rattle.rules.specs.Demands.{Demand1, Demand2, Demand3}
-use Rattle.rules.specs.Requests.{SideInTheHalf, Branches, Duos}
+use Rattle.rules.specs.Requests.{SideInTheHalf, Branches, Duos, AddedWhileReading}
 use Rattle.rules.proofs.Refusals.{desk-refuses, core-refuses, units-numbered, cents-numbered}
 use Rattle.rules.proofs.Ruling.{ruled, totalled}
 use Rattle.rules.proofs.Derivations.{derives}
@@ -10,6 +10,7 @@ use Rattle.rules.proofs.Lists.{lists-balance, logs-balance}
 use Rattle.rules.proofs.SidesWritten.{side-in-the-half}
 use Rattle.rules.proofs.Branches.{branches}
 use Rattle.rules.proofs.Segregated.{duos}
+use Rattle.rules.proofs.Identifiers.{added-while-reading}
 
 pub demand1 : Demand1
 demand1 = record { desks = desk-refuses; cores = core-refuses; unitsTotals = units-numbered; cashTotals = cents-numbered }
@@ -28,3 +29,6 @@ ask2 = branches
 
 pub ask3 : Duos
 ask3 = duos
+
+pub ask4 : AddedWhileReading
+ask4 = added-while-reading

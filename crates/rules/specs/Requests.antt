@@ -2,11 +2,12 @@
 use mathlib.Core.Path.{_≡_}
 use mathlib.Core.List.{List, [], _∷_, _++_, map}
 use mathlib.Core.Bool.{true}
-use Prim.Native.Nat.{ℕ}
-use lib.ListN.{length}
+use Prim.Native.Nat.{ℕ, _+_, _-_, _%_}
+use lib.Dec.{eqb}
+use lib.ListN.{length, take}
 use Rattle.rules.specs.Types.{Csd, Account, Pair, Half, SidedHalf, Step, Accepted, Refused}
 use Rattle.rules.specs.Tests.{firstOf}
-use Rattle.rules.specs.Identifiers.{sameBic}
+use Rattle.rules.specs.Identifiers.{byteAt, sameBic, isinChecks, isinSumLeft}
 use Rattle.rules.specs.Directory.{Rows, noCsd, noAccount}
 use Rattle.rules.specs.Lookups.{ask}
 use Rattle.rules.specs.Entries.{csdRow, pairConditions, soundRows}
@@ -139,3 +140,11 @@ pub record SegregatedShown : Type 0 where
   pub chains : map (λ (a : ℕ). chain (ask segregated) 0 13 a) (0 ∷ 1 ∷ 2 ∷ 3 ∷ []) ≡ segregatedChains
   pub refusals : map (λ (x : Pair × ℕ). firstOf (pairConditions (ask segregated) (x .0))) segregatedRows ≡ map (λ (x : Pair × ℕ). x .1) segregatedRows
   pub formerByte : transcript (4 ∷ []) ≡ bytes "1 no 1\ncash 0\n"
+
+-- ---- Ask 4, "ISIN digits without the scratch copy"
+
+-- "it is to add while reading, with no buffer of digits into which letters are spread": `isinSumLeft` keeps two sums of what it has read, and no
+-- digit. That it is the sum of the spread digits, added up from the right, over any length, is `Examples: IsinShown.rule`; so of any bytes:
+pub record AddedWhileReading : Type 0 where
+  -- "Valid and invalid ISINs are the same ones."
+  pub same : (i : List ℕ) → eqb ((isinSumLeft (take 11 i) + (byteAt i 11 - 48)) % 10) 0 ≡ isinChecks i
