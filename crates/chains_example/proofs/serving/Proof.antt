@@ -2,8 +2,8 @@
 use Prim.Native.Nat.{_≤_, _-_}
 use Rattle.rules.specs.Directory.{accountLimit}
 use borrow.Author.Needs.{needs}
-use Rattle.desk_example.proofs.serving.Statement.{statement}
-use Rattle.desk_example.proofs.serving.Tie as tie
+use Rattle.chains_example.proofs.serving.Statement.{statement}
+use Rattle.chains_example.proofs.serving.Tie as tie
 
 abbrev Inv-loop : tie.InvT-loop
 Inv-loop csd technical mirror omnibus accounts served₀ i₀ served i = i ≤ accountLimit

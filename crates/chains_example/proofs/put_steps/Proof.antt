@@ -2,8 +2,8 @@
 use Prim.Native.Nat.{_≤_, _-_}
 use borrow.Author.Needs.{needs}
 use Rattle.rules.specs.Chain.{stepLimit}
-use Rattle.desk_example.proofs.put_steps.Statement.{statement}
-use Rattle.desk_example.proofs.put_steps.Tie as tie
+use Rattle.chains_example.proofs.put_steps.Statement.{statement}
+use Rattle.chains_example.proofs.put_steps.Tie as tie
 
 abbrev Inv-loop : tie.InvT-loop
 Inv-loop names lines steps i₀ i = i ≤ stepLimit

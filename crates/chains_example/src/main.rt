@@ -1,5 +1,5 @@
-// Document 01's examples by the desk's functions alone: its chains by example, then its worked example, booked and taken back.
-// A drawing has a link for each three bytes: `A>C` is a default link, `A~B` an alternative, `I=I` an issuer.
+// Document 01's chains by example, by the desk's functions alone. A drawing has a link for each three bytes: `A>C` is a default link, `A~B` an
+// alternative, `I=I` an issuer.
 use desk::empty;
 use examples::after;
 use examples::csd;
@@ -8,29 +8,20 @@ use examples::pair;
 use examples::put;
 use examples::put_number;
 use examples::put_numbers;
-use examples::put_signed;
 use examples::with_account;
 use examples::with_csd;
 use examples::with_link;
 use examples::with_pair;
 use rules::ACCOUNTS;
-use rules::Account;
 use rules::Answer;
 use rules::Directory;
 use rules::NO_ACCOUNT;
 use rules::NO_CSD;
 use rules::OMNIBUS;
-use rules::POSITIONS;
-use rules::SECURITIES;
 use rules::STEPS;
 use rules::Security;
 
 // ---- what is printed
-
-fn put_answer(answer: Answer) {
-    examples::put_answer(answer);
-    put(b"\n");
-}
 
 // "K steps mean 2 × K − 2 generated instructions."
 fn put_chain(answer: Answer) {
@@ -65,17 +56,7 @@ fn put_steps(names: &[u8; 8], steps: rules::Steps, lines: bool) {
     }
 }
 
-fn half(account: u16, counterpart: u8, quantity: u64, amount: u64) -> rules::Half {
-    rules::Half {
-        account,
-        counterpart,
-        security: 0,
-        quantity,
-        amount,
-    }
-}
-
-// ---- chains by example
+// ---- the directory that is drawn
 
 // A, B, C, D, I, J are in T2S, X and Y are external.
 fn csd_of(letter: u8) -> u8 {
@@ -151,11 +132,22 @@ fn drawn(drawing: &[u8]) -> Directory {
     directory
 }
 
-// A delivery of 100 from the first participant of A to the second of another CSD, or of A.
+// A half of 100 units without cash.
+fn half(account: u16, counterpart: u8) -> rules::Half {
+    rules::Half {
+        account,
+        counterpart,
+        security: 0,
+        quantity: 100,
+        amount: 0,
+    }
+}
+
+// A delivery from the first participant of A to the second of another CSD, or of A.
 fn show(letter: u8, drawing: &[u8]) {
     let to = csd_of(letter);
-    let receiving = half(3 * (to as u16) + 1, 0, 100, 0);
-    let reply = desk::derive_by_value(drawn(drawing), half(0, to, 100, 0), receiving);
+    let receiving = half(3 * (to as u16) + 1, 0);
+    let reply = desk::derive_by_value(drawn(drawing), half(0, to), receiving);
     let answer = reply.answer;
     let ends = [b'A', b' ', b't', b'o', b' ', letter, b',', b' '];
     put(&ends);
@@ -167,7 +159,7 @@ fn show(letter: u8, drawing: &[u8]) {
 }
 
 // The first has D = R: no link is read.
-fn chains() {
+fn main() {
     show(b'A', b"B>I I=I");
     show(b'B', b"A>C C>I B>D D>I I=I");
     show(b'B', b"A>I B>I I=I");
@@ -181,88 +173,4 @@ fn chains() {
     show(b'B', b"A>X B>I I=I");
     show(b'B', b"A>C C>I B>D D>I I=I A~B");
     show(b'B', b"B>I I=I");
-}
-
-// ---- the worked example
-
-fn told(entered: rules::Entered) -> Directory {
-    let answer = entered.answer;
-    put_answer(answer);
-    entered.directory
-}
-
-// CSD 0 has the participant 0 and the mirror 1; CSD 1 has the omnibus 2, the issuance account 3 and the participant 4.
-fn worked() -> Directory {
-    let first = told(desk::enter_csd(empty(), csd(0, b'0')));
-    let second = told(desk::enter_csd(first, csd(0, b'1')));
-    let isin = *b"XS0000000009";
-    let listed = told(desk::enter_security(second, Security { isin }));
-    let one = told(desk::enter_account(listed, Account { csd: 0, kind: 0 }));
-    let two = told(desk::enter_account(one, Account { csd: 0, kind: 2 }));
-    let three = told(desk::enter_account(two, Account { csd: 1, kind: 1 }));
-    let four = told(desk::enter_account(three, Account { csd: 1, kind: 4 }));
-    let five = told(desk::enter_account(four, Account { csd: 1, kind: 0 }));
-    let paired = told(desk::enter_pair(five, pair(0, 1, 1, 2, 0)));
-    let issued = told(desk::enter_link(paired, link(0, 1, NO_CSD, 1, 3)));
-    told(desk::enter_link(issued, link(1, 0, 1, 1, NO_ACCOUNT)))
-}
-
-// Rows of securities, positions of accounts 0 to 4, and the totals.
-fn put_store(directory: Directory, positions: &[i64; POSITIONS], cash: &[i64; ACCOUNTS]) {
-    put_number(b"securities ", directory.securities.count as u64);
-    put_signed(b", positions ", positions[0]);
-    put_signed(b" ", positions[SECURITIES]);
-    put_signed(b" ", positions[2 * SECURITIES]);
-    put_signed(b" ", positions[3 * SECURITIES]);
-    put_signed(b" ", positions[4 * SECURITIES]);
-    match desk::security_total(directory, positions, 0) {
-        rules::SecurityTotal::SumUnits(sum) => put_signed(b", total ", sum.0),
-        rules::SecurityTotal::NoUnits(number) => put_number(b", no ", number as u64),
-    }
-    match desk::cash_total(cash) {
-        rules::CashTotal::SumCents(sum) => put_signed(b", cash ", sum.0),
-        rules::CashTotal::NoCents(number) => put_number(b", no ", number as u64),
-    }
-    put(b"\n");
-}
-
-// A delivery between the participants 0 of CSD 0 and 4 of CSD 1.
-fn settle(
-    directory: Directory,
-    positions: &mut [i64; POSITIONS],
-    cash: &mut [i64; ACCOUNTS],
-    from: u16,
-    to: u16,
-    quantity: u64,
-    amount: u64,
-) {
-    let delivering = half(from, (0 < to) as u8, quantity, amount);
-    let receiving = half(to, (0 < from) as u8, quantity, amount);
-    let reply = desk::settle_by_value(directory, positions, cash, delivering, receiving);
-    let answer = reply.answer;
-    put_answer(answer);
-    put_steps(b"01234567", reply.steps, true);
-    put_store(directory, positions, cash);
-}
-
-fn book(directory: Directory, positions: &mut [i64; POSITIONS], cash: &mut [i64; ACCOUNTS]) {
-    put_answer(desk::bring_in(directory, positions, 4, 0, 100));
-    put_store(directory, positions, cash);
-    settle(directory, positions, cash, 4, 0, 40, 0);
-    put_answer(desk::pay_in(directory, cash, 4, 500));
-    settle(directory, positions, cash, 0, 4, 40, 500);
-    settle(directory, positions, cash, 4, 0, 101, 0);
-    let isin = *b"XS0000000008";
-    let same = told(desk::enter_security(directory, Security { isin }));
-    put_store(same, positions, cash);
-    put_answer(desk::take_out(same, positions, 4, 0, 100));
-    put_answer(desk::pay_out(same, cash, 0, 500));
-    put_store(same, positions, cash);
-}
-
-fn main() {
-    let mut positions = [0i64; POSITIONS];
-    let mut cash = [0i64; ACCOUNTS];
-    chains();
-    book(worked(), &mut positions, &mut cash);
 }

@@ -2,8 +2,8 @@
 use Prim.Native.Nat.{_≤_, _+_, _-_}
 use lib.ListN.{length}
 use borrow.Author.Needs.{needs}
-use Rattle.desk_example.proofs.drawn.Statement.{statement}
-use Rattle.desk_example.proofs.drawn.Tie as tie
+use Rattle.chains_example.proofs.drawn.Statement.{statement}
+use Rattle.chains_example.proofs.drawn.Tie as tie
 
 abbrev Inv-loop : tie.InvT-loop
 Inv-loop drawing directory₀ i₀ directory i = i ≤ length drawing + 2
