@@ -1,10 +1,10 @@
 //! Positions and cash: what a call may change, judged on the numbers before it, and the change.
 
 use crate::chain::{Step, Steps};
-use crate::directory::{ACCOUNTS, OMNIBUS, PARTICIPANT, SECURITIES};
+use crate::directory::{Day, ACCOUNTS, OMNIBUS, PARTICIPANT, SECURITIES};
 use crate::numbers::{AccountNumber, SecurityNumber};
 use crate::refusal::{require, Refusal};
-use crate::register::Register;
+use crate::register::{Register, Standing};
 
 /// 10^15: the largest quantity and amount, and the bound of every number that a call changes.
 pub const BOUND: i64 = 1_000_000_000_000_000;
@@ -119,21 +119,27 @@ pub enum Direction {
 }
 
 impl Register {
-    /// The chain of two halves, or the refusal of these or of the chain.
-    pub fn derive_halves(&self, halves: Halves) -> Result<Steps, Refusal> {
+    /// The chain of two halves on a day, or the refusal of these or of the chain.
+    pub fn derive_halves(&self, halves: Halves, day: Day) -> Result<Steps, Refusal> {
         let instruction = self.instruction(halves)?;
-        self.derive(instruction.security, instruction.delivering, instruction.receiving)
+        self.derive(instruction.security, instruction.delivering, instruction.receiving, day)
     }
 
-    /// Books the chain of two halves and their cash, or gives the refusal and changes nothing.
-    pub fn settle(&self, positions: &mut Positions, cash: &mut Cash, halves: Halves) -> Result<Steps, Refusal> {
+    /// Books the chain of two halves on a day and their cash, or gives the refusal and changes nothing.
+    pub fn settle(
+        &self,
+        positions: &mut Positions,
+        cash: &mut Cash,
+        halves: Halves,
+        day: Day,
+    ) -> Result<Steps, Refusal> {
         let instruction = self.instruction(halves)?;
-        let steps = self.derive(instruction.security, instruction.delivering, instruction.receiving)?;
+        let steps = self.derive(instruction.security, instruction.delivering, instruction.receiving, day)?;
         self.book(positions, cash, &instruction, &steps)?;
         Ok(steps)
     }
 
-    /// Brings a quantity in on a participant account against its CSD's source, or takes it out.
+    /// Brings a quantity in on a participant account against its CSD's source on a day, or takes it out.
     pub fn move_securities(
         &self,
         positions: &mut Positions,
@@ -141,13 +147,14 @@ impl Register {
         account: u16,
         security: u8,
         quantity: Units,
+        day: Day,
     ) -> Result<(), Refusal> {
         let account = self.account(account)?;
         let security = self.security(security)?;
         require((1..=BOUND).contains(&quantity.0), Refusal::OutsideRange)?;
         require(self.account_kind(account) == PARTICIPANT, Refusal::WrongAccount)?;
         let own = position(account, security);
-        let source = position(self.source(security, account)?, security);
+        let source = position(self.source(security, account, day)?, security);
         (positions[own], positions[source]) = match direction {
             Direction::In => (positions[own].plus(quantity)?, positions[source].minus(quantity)?),
             Direction::Out => {
@@ -256,16 +263,15 @@ impl Register {
 
     /// The account that bring in debits: "the issuance account of its issuer link, else the inter-CSD
     /// account of its default link to an external CSD", by the participant's row there, or 19.
-    fn source(&self, security: SecurityNumber, account: AccountNumber) -> Result<AccountNumber, Refusal> {
-        let csd = self.account_csd(account);
-        if self.is_issuer(security, csd) {
-            return Ok(self.issuance(security, csd));
+    fn source(&self, security: SecurityNumber, account: AccountNumber, day: Day) -> Result<AccountNumber, Refusal> {
+        match self.standing(security, self.account_csd(account), day) {
+            Standing::Issuer(issuance) => Ok(issuance),
+            Standing::Investor(technical) if self.is_external(technical) => {
+                let pair = self.pair(technical, account).ok_or(Refusal::NoSource)?;
+                Ok(AccountNumber(pair.investor_account))
+            }
+            _ => Err(Refusal::NoSource),
         }
-        self.default_technical(security, csd)
-            .filter(|&technical| self.is_external(technical))
-            .and_then(|technical| self.pair(technical, account))
-            .map(|pair| AccountNumber(pair.investor_account))
-            .ok_or(Refusal::NoSource)
     }
 }
 

@@ -1,6 +1,6 @@
 //! The chain of a settlement: which CSDs it passes, and the step in the books of each.
 
-use crate::directory::Pair;
+use crate::directory::{Day, Pair};
 use crate::numbers::{AccountNumber, CsdNumber, SecurityNumber};
 use crate::refusal::Refusal;
 use crate::register::Register;
@@ -36,8 +36,8 @@ impl std::ops::Deref for Steps {
 enum Meeting {
     /// Both sides end at the same CSD.
     Shared,
-    /// Each side ends at an issuer of its own.
-    Issuers,
+    /// Each side ends at an issuer of its own, with an issuance account.
+    Issuers(AccountNumber, AccountNumber),
     /// Each side goes on to an external CSD.
     Outside(CsdNumber, CsdNumber),
 }
@@ -50,27 +50,28 @@ struct Route<'a> {
 }
 
 impl Register {
-    /// The steps between two participant accounts, or refusal 14 to 18.
+    /// The steps between two participant accounts on a day, or refusal 14 to 18.
     pub fn derive(
         &self,
         security: SecurityNumber,
         delivering: AccountNumber,
         receiving: AccountNumber,
+        day: Day,
     ) -> Result<Steps, Refusal> {
         let d = self.account_csd(delivering);
         let r = self.account_csd(receiving);
-        let steps = |route| self.steps(security, &route, delivering, receiving);
+        let steps = |route| self.steps(&route, delivering, receiving);
         if d == r {
             return steps(Route { delivering: &[d], receiving: &[d], meeting: Meeting::Shared });
         }
-        let (from_d, from_r) = (self.default_walk(security, d), self.default_walk(security, r));
+        let (from_d, from_r) = (self.default_walk(security, d, day), self.default_walk(security, r, day));
         if let Some(route) = shared_route(&from_d, &from_r) {
             return steps(route);
         }
-        if let Some(side) = self.directed_walk(security, d, r) {
+        if let Some(side) = self.directed_walk(security, d, r, day) {
             return steps(Route { delivering: side.csds(), receiving: &[r], meeting: Meeting::Shared });
         }
-        if let Some(side) = self.directed_walk(security, r, d) {
+        if let Some(side) = self.directed_walk(security, r, d, day) {
             return steps(Route { delivering: &[d], receiving: side.csds(), meeting: Meeting::Shared });
         }
         let meeting = judge(from_d.end, from_r.end)?;
@@ -79,13 +80,7 @@ impl Register {
 
     /// The step of each CSD of a route, or 18. Each side is climbed from its own account upwards: "a step looks up
     /// the row of the account at its other side".
-    fn steps(
-        &self,
-        security: SecurityNumber,
-        route: &Route,
-        delivering: AccountNumber,
-        receiving: AccountNumber,
-    ) -> Result<Steps, Refusal> {
+    fn steps(&self, route: &Route, delivering: AccountNumber, receiving: AccountNumber) -> Result<Steps, Refusal> {
         let mut list = [Step::default(); STEPS];
         let mut front = 0;
         let mut debit = delivering;
@@ -108,7 +103,7 @@ impl Register {
         let (d, r) = (route.delivering[route.delivering.len() - 1], route.receiving[route.receiving.len() - 1]);
         let far = match route.meeting {
             Meeting::Shared => (credit.0, debit.0),
-            Meeting::Issuers => (self.issuance(security, d).0, self.issuance(security, r).0),
+            Meeting::Issuers(delivering, receiving) => (delivering.0, receiving.0),
             Meeting::Outside(x, y) => {
                 (self.pair_or_refusal(x, debit)?.investor_account, self.pair_or_refusal(y, credit)?.investor_account)
             }
@@ -145,7 +140,7 @@ fn judge(d: WalkEnd, r: WalkEnd) -> Result<Meeting, Refusal> {
     match (d, r) {
         (NoLink, _) | (_, NoLink) => Err(Refusal::NoLink),
         (TooLong, _) | (_, TooLong) => Err(Refusal::TooLong),
-        (Inside(_), Inside(_)) => Ok(Meeting::Issuers),
+        (Inside(delivering), Inside(receiving)) => Ok(Meeting::Issuers(delivering, receiving)),
         (Outside(x), Outside(y)) => Ok(Meeting::Outside(x, y)),
         (Inside(_), Outside(_)) => Err(Refusal::InsideToOutside),
         (Outside(_), Inside(_)) => Err(Refusal::OutsideToInside),

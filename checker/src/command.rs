@@ -1,7 +1,7 @@
 //! Commands as bytes: one byte for the command, then operands big-endian of fixed widths.
 
 use crate::booking::{Cents, Half, SidedHalf, Units};
-use crate::directory::{Account, Csd, Link, Pair, Security};
+use crate::directory::{Account, Csd, Day, Link, Pair, Period, Security};
 use crate::refusal::Refusal;
 
 #[derive(Clone, Copy, PartialEq, Eq, Debug)]
@@ -11,14 +11,14 @@ pub enum Command {
     EnterAccount(Account),
     EnterPair(Pair),
     EnterLink(Link),
-    BringIn { account: u16, security: u8, quantity: Units },
-    TakeOut { account: u16, security: u8, quantity: Units },
+    BringIn { account: u16, security: u8, quantity: Units, day: Day },
+    TakeOut { account: u16, security: u8, quantity: Units, day: Day },
     PayIn { account: u16, amount: Cents },
     PayOut { account: u16, amount: Cents },
-    Settle { delivering: Half, receiving: Half },
-    Derive { delivering: Half, receiving: Half },
-    SettleSided { first: SidedHalf, second: SidedHalf },
-    DeriveSided { first: SidedHalf, second: SidedHalf },
+    Settle { delivering: Half, receiving: Half, day: Day },
+    Derive { delivering: Half, receiving: Half, day: Day },
+    SettleSided { first: SidedHalf, second: SidedHalf, day: Day },
+    DeriveSided { first: SidedHalf, second: SidedHalf, day: Day },
 }
 
 /// A place in the lent bytes, from which commands and their operands are read.
@@ -49,15 +49,26 @@ impl<'a> Reader<'a> {
                 technical: self.byte()?,
                 flag: self.byte()?,
                 account: self.account()?,
+                days: Period { first: self.day()?, last: self.day()? },
             }),
-            0x06 => Command::BringIn { account: self.account()?, security: self.byte()?, quantity: self.units()? },
-            0x07 => Command::TakeOut { account: self.account()?, security: self.byte()?, quantity: self.units()? },
+            0x06 => Command::BringIn {
+                account: self.account()?,
+                security: self.byte()?,
+                quantity: self.units()?,
+                day: self.day()?,
+            },
+            0x07 => Command::TakeOut {
+                account: self.account()?,
+                security: self.byte()?,
+                quantity: self.units()?,
+                day: self.day()?,
+            },
             0x08 => Command::PayIn { account: self.account()?, amount: self.cents()? },
             0x09 => Command::PayOut { account: self.account()?, amount: self.cents()? },
-            0x0A => Command::Settle { delivering: self.half()?, receiving: self.half()? },
-            0x0B => Command::Derive { delivering: self.half()?, receiving: self.half()? },
-            0x0C => Command::SettleSided { first: self.sided_half()?, second: self.sided_half()? },
-            0x0D => Command::DeriveSided { first: self.sided_half()?, second: self.sided_half()? },
+            0x0A => Command::Settle { delivering: self.half()?, receiving: self.half()?, day: self.day()? },
+            0x0B => Command::Derive { delivering: self.half()?, receiving: self.half()?, day: self.day()? },
+            0x0C => Command::SettleSided { first: self.sided_half()?, second: self.sided_half()?, day: self.day()? },
+            0x0D => Command::DeriveSided { first: self.sided_half()?, second: self.sided_half()?, day: self.day()? },
             0x0E => Command::EnterPair(Pair {
                 investor: self.byte()?,
                 technical: self.byte()?,
@@ -85,6 +96,10 @@ impl<'a> Reader<'a> {
 
     fn account(&mut self) -> Result<u16, Refusal> {
         self.bytes().map(u16::from_be_bytes)
+    }
+
+    fn day(&mut self) -> Result<Day, Refusal> {
+        self.bytes().map(Day::from_be_bytes)
     }
 
     fn units(&mut self) -> Result<Units, Refusal> {
@@ -153,26 +168,32 @@ impl Command {
                     out.extend(account.to_be_bytes());
                 }
             }
-            Command::EnterLink(Link { security, kind, csd, technical, flag, account }) => {
+            Command::EnterLink(Link { security, kind, csd, technical, flag, account, days }) => {
                 out.extend([security, kind, csd, technical, flag]);
-                out.extend(account.to_be_bytes());
+                for number in [account, days.first, days.last] {
+                    out.extend(number.to_be_bytes());
+                }
             }
-            Command::BringIn { account, security, quantity } | Command::TakeOut { account, security, quantity } => {
+            Command::BringIn { account, security, quantity, day }
+            | Command::TakeOut { account, security, quantity, day } => {
                 out.extend(account.to_be_bytes());
                 out.push(security);
                 out.extend(quantity.0.to_be_bytes());
+                out.extend(day.to_be_bytes());
             }
             Command::PayIn { account, amount } | Command::PayOut { account, amount } => {
                 out.extend(account.to_be_bytes());
                 out.extend(amount.0.to_be_bytes());
             }
-            Command::Settle { delivering, receiving } | Command::Derive { delivering, receiving } => {
+            Command::Settle { delivering, receiving, day } | Command::Derive { delivering, receiving, day } => {
                 delivering.write(out);
                 receiving.write(out);
+                out.extend(day.to_be_bytes());
             }
-            Command::SettleSided { first, second } | Command::DeriveSided { first, second } => {
+            Command::SettleSided { first, second, day } | Command::DeriveSided { first, second, day } => {
                 first.write(out);
                 second.write(out);
+                out.extend(day.to_be_bytes());
             }
         }
     }

@@ -44,9 +44,10 @@ pub fn move_securities(
     account: u16,
     security: u8,
     quantity: Units,
+    day: Day,
 ) -> Result<(), Refusal> {
     let positions = lent(positions)?;
-    Register::of(directory)?.move_securities(positions, direction, account, security, quantity)
+    Register::of(directory)?.move_securities(positions, direction, account, security, quantity, day)
 }
 
 pub fn move_cash(
@@ -61,9 +62,9 @@ pub fn move_cash(
 }
 
 /// Writes the steps of the chain into the lent list, and answers how many they are.
-pub fn derive(directory: &Directory, steps: &mut [Step], halves: Halves) -> Result<usize, Refusal> {
+pub fn derive(directory: &Directory, steps: &mut [Step], halves: Halves, day: Day) -> Result<usize, Refusal> {
     require(steps.len() >= STEPS, Refusal::LentList)?;
-    let chain = Register::of(directory)?.derive_halves(halves)?;
+    let chain = Register::of(directory)?.derive_halves(halves, day)?;
     Ok(hand_over(&chain, steps))
 }
 
@@ -74,11 +75,12 @@ pub fn settle(
     cash: &mut [Cents],
     steps: &mut [Step],
     halves: Halves,
+    day: Day,
 ) -> Result<usize, Refusal> {
     let positions = lent(positions)?;
     let cash = lent(cash)?;
     require(steps.len() >= STEPS, Refusal::LentList)?;
-    let chain = Register::of(directory)?.settle(positions, cash, halves)?;
+    let chain = Register::of(directory)?.settle(positions, cash, halves, day)?;
     Ok(hand_over(&chain, steps))
 }
 

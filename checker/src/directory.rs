@@ -34,6 +34,37 @@ pub const DEFAULT: u8 = 1;
 pub type Bic = [u8; 11];
 pub type Isin = [u8; 12];
 
+/// "A 16-bit count from 1 January 2020 as day 0."
+pub type Day = u16;
+
+/// The days from a first to a last one, both included. With the first after the last there is none.
+#[derive(Clone, Copy, PartialEq, Eq, Debug, Default)]
+pub struct Period {
+    pub first: Day,
+    pub last: Day,
+}
+
+impl Period {
+    /// Every day.
+    pub const ALWAYS: Period = Period { first: 0, last: Day::MAX };
+
+    pub fn new(first: Day, last: Day) -> Period {
+        Period { first, last }
+    }
+
+    pub fn has_day(self) -> bool {
+        self.first <= self.last
+    }
+
+    pub fn contains(self, day: Day) -> bool {
+        self.first <= day && day <= self.last
+    }
+
+    pub fn shares_day(self, other: Period) -> bool {
+        self.first.max(other.first) <= self.last.min(other.last)
+    }
+}
+
 #[derive(Clone, Copy, PartialEq, Eq, Debug, Default)]
 pub struct Csd {
     pub kind: u8,
@@ -70,6 +101,7 @@ pub struct Link {
     pub technical: u8,
     pub flag: u8,
     pub account: u16,
+    pub days: Period,
 }
 
 /// Rows numbered from 0 by entry; those from `count` on are not entered.

@@ -62,7 +62,7 @@ mod tests {
         let added = |digit: u32| digit / 10 + digit % 10;
         let sum: u32 =
             digits.enumerate().map(|(place, digit)| if place % 2 == 0 { added(2 * digit) } else { digit }).sum();
-        (sum + u32::from(isin[11] - b'0')) % 10 == 0
+        (sum + u32::from(isin[11] - b'0')).is_multiple_of(10)
     }
 
     /// Letters and digits in the eleven places before the check digit, in each of the 2,048 ways.

@@ -41,10 +41,6 @@ impl CsdSet {
         self.0 >> csd.index() & 1 == 1
     }
 
-    pub fn is_empty(self) -> bool {
-        self.0 == 0
-    }
-
     pub fn meets(self, other: CsdSet) -> bool {
         self.0 & other.0 != 0
     }

@@ -10,7 +10,7 @@ use crate::trial::implementation::{Answer, Call, Implementation, Program, Store}
 
 /// The command that enters a row of each table, and the bytes of a row.
 const ENTRIES: [u8; 5] = [0x01, 0x02, 0x03, 0x0E, 0x05];
-const WIDTHS: [usize; 5] = [12, 12, 2, 8, 7];
+const WIDTHS: [usize; 5] = [12, 12, 2, 8, 11];
 const ROWS: [usize; 5] = [CSDS, SECURITIES, ACCOUNTS, PAIRS, LINKS];
 const STEP_WIDTH: usize = 5;
 pub const STEP_BYTES: usize = STEPS * STEP_WIDTH;
@@ -448,5 +448,25 @@ impl Implementation for Proved {
         store.steps = read_steps(&steps);
         self.steps = steps;
         answer
+    }
+}
+
+#[cfg(test)]
+mod tests {
+    use super::*;
+    use crate::trial::calls;
+    use crate::trial::random::Random;
+
+    #[test]
+    fn rows_have_the_bytes_of_their_commands() {
+        assert_eq!(ROW_BYTES, 6_592);
+        let mut random = Random::new(5);
+        for _ in 0..200 {
+            let directory = calls::store(&mut random).directory;
+            let mut bytes = Bytes::default();
+            bytes.write(&directory);
+            assert_eq!((bytes.counts.len(), bytes.rows.len()), (5, ROW_BYTES));
+            assert!(bytes.read() == directory);
+        }
     }
 }

@@ -14,6 +14,7 @@ pub enum Refusal {
     CheckDigit = 8,
     AlreadyEntered = 9,
     WrongAccount = 10,
+    FirstAfterLast = 24,
     RuleBroken = 11,
     SameSide = 23,
     HalvesDiffer = 12,

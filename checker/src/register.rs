@@ -1,21 +1,21 @@
-//! A sound directory with its look-ups, all in constant time, and the entries with their refusals.
-//! A register only grows by accepted rows, so it is sound without being tested.
+//! A sound directory with its look-ups, in constant time but for the links that one CSD has for one security, and the
+//! entries with their refusals. A register only grows by accepted rows, so it is sound without being tested.
 
 use crate::directory::*;
 use crate::isin;
+use crate::links::Links;
 use crate::numbers::{AccountNumber, CsdNumber, CsdSet, SecurityNumber};
 use crate::refusal::{require, Refusal};
 
-const NONE: u8 = 0xFF;
 const NO_ROW: u16 = 0xFFFF;
 
-/// The links of one security, by CSD.
-#[derive(Clone)]
-struct SecurityLinks {
-    issuers: CsdSet,
-    issuance: [u16; CSDS],
-    default: [u8; CSDS],
-    technical: [CsdSet; CSDS],
+/// What a CSD in T2S is for a security on a day: an issuer with its issuance account, an investor with the technical
+/// issuer of its default link, or neither.
+#[derive(Clone, Copy, PartialEq, Eq, Debug)]
+pub enum Standing {
+    Issuer(AccountNumber),
+    Investor(CsdNumber),
+    NoLink,
 }
 
 #[derive(Clone)]
@@ -26,23 +26,18 @@ pub struct Register {
     paired: [u16; ACCOUNTS],
     /// By served account and technical issuer.
     pair_numbers: [[u16; CSDS]; ACCOUNTS],
-    links: [SecurityLinks; SECURITIES],
+    /// By security and CSD.
+    links: [[Links; CSDS]; SECURITIES],
 }
 
 impl Default for Register {
     fn default() -> Self {
-        let no_links = SecurityLinks {
-            issuers: CsdSet::default(),
-            issuance: [NO_ACCOUNT; CSDS],
-            default: [NONE; CSDS],
-            technical: [CsdSet::default(); CSDS],
-        };
         Register {
             directory: Directory::default(),
             external: CsdSet::default(),
             paired: [NO_ROW; ACCOUNTS],
             pair_numbers: [[NO_ROW; CSDS]; ACCOUNTS],
-            links: std::array::from_fn(|_| no_links.clone()),
+            links: Default::default(),
         }
     }
 }
@@ -112,26 +107,18 @@ impl Register {
         self.directory.pairs.rows.get(usize::from(number))
     }
 
-    pub fn is_issuer(&self, security: SecurityNumber, csd: CsdNumber) -> bool {
-        self.links[security.index()].issuers.contains(csd)
+    /// The links of a CSD for a security, of all days.
+    pub fn links(&self, security: SecurityNumber, csd: CsdNumber) -> &Links {
+        &self.links[security.index()][csd.index()]
     }
 
-    /// The issuance account of an issuer link in T2S.
-    pub fn issuance(&self, security: SecurityNumber, csd: CsdNumber) -> AccountNumber {
-        AccountNumber(self.links[security.index()].issuance[csd.index()])
-    }
-
-    /// The technical issuer of a CSD's default link.
-    pub fn default_technical(&self, security: SecurityNumber, csd: CsdNumber) -> Option<CsdNumber> {
-        match self.links[security.index()].default[csd.index()] {
-            NONE => None,
-            technical => Some(CsdNumber(technical)),
+    /// What a CSD in T2S is for a security on a day.
+    pub fn standing(&self, security: SecurityNumber, csd: CsdNumber, day: Day) -> Standing {
+        match self.links(security, csd).default_on(day) {
+            None => Standing::NoLink,
+            Some(link) if link.kind == ISSUER => Standing::Issuer(AccountNumber(link.account)),
+            Some(link) => Standing::Investor(CsdNumber(link.technical)),
         }
-    }
-
-    /// The technical issuers of all a CSD's links, default and alternative.
-    pub fn technical_issuers(&self, security: SecurityNumber, csd: CsdNumber) -> CsdSet {
-        self.links[security.index()].technical[csd.index()]
     }
 }
 
@@ -226,26 +213,35 @@ impl Register {
         let account = self.account_or_none(link.account, account_due)?;
         require(link.kind <= INVESTOR && link.flag <= DEFAULT, Refusal::OutsideRange)?;
 
-        let others = self.technical_issuers(security, csd);
-        require(!technical.is_some_and(|technical| others.contains(technical)), Refusal::AlreadyEntered)?;
+        let links = self.links(security, csd);
+        let entered = technical.is_some() && links.meet(link.days, |other| other.technical == link.technical);
+        require(!entered, Refusal::AlreadyEntered)?;
 
         let issuance_fits = |account| self.account_csd(account) == csd && self.account_kind(account) == ISSUANCE;
         require(!account_due || account.is_some_and(issuance_fits), Refusal::WrongAccount)?;
+        require(link.days.has_day(), Refusal::FirstAfterLast)?;
 
         let account_fits = account.is_some() == account_due;
         let link_fits = match technical {
-            None => link.flag == DEFAULT && others.is_empty(),
-            Some(technical) => {
-                let first = others.is_empty();
-                let inside = !self.is_external(csd) && !self.is_external(technical);
-                link.kind == INVESTOR && technical != csd && (link.flag == DEFAULT) == first && (first || inside)
-            }
+            None => link.flag == DEFAULT && !links.meet(link.days, |_| true),
+            Some(technical) => link.kind == INVESTOR && technical != csd && self.investor_fits(csd, technical, &link),
         };
-        require(account_fits && link_fits && !self.is_issuer(security, csd), Refusal::RuleBroken)?;
+        require(account_fits && link_fits, Refusal::RuleBroken)?;
 
-        self.index_link(security, csd, technical, &link);
+        self.links[security.index()][csd.index()].push(link);
         self.directory.links.push(link);
         Ok(())
+    }
+
+    /// "The rules on one default [...] and issuer links are judged wherever two periods share a day; an alternative needs
+    /// a default on each of its days", and joins two CSDs in T2S.
+    fn investor_fits(&self, csd: CsdNumber, technical: CsdNumber, link: &Link) -> bool {
+        let links = &self.links[usize::from(link.security)][csd.index()];
+        if link.flag == DEFAULT {
+            return !links.meet(link.days, |other| other.flag == DEFAULT);
+        }
+        let inside = !self.is_external(csd) && !self.is_external(technical);
+        inside && !links.meet(link.days, |other| other.kind == ISSUER) && links.have_default_throughout(link.days)
     }
 
     /// An account number that names a row, or FFFF where no row is due.
@@ -254,22 +250,6 @@ impl Register {
             return Ok(None);
         }
         self.account(number).map(Some)
-    }
-
-    fn index_link(&mut self, security: SecurityNumber, csd: CsdNumber, technical: Option<CsdNumber>, link: &Link) {
-        let links = &mut self.links[security.index()];
-        match technical {
-            None => {
-                links.issuers.insert(csd);
-                links.issuance[csd.index()] = link.account;
-            }
-            Some(technical) => {
-                links.technical[csd.index()].insert(technical);
-                if link.flag == DEFAULT {
-                    links.default[csd.index()] = technical.0;
-                }
-            }
-        }
     }
 }
 

@@ -57,25 +57,25 @@ impl Session {
             Command::EnterAccount(row) => register.enter_account(row)?,
             Command::EnterPair(row) => register.enter_pair(row)?,
             Command::EnterLink(row) => register.enter_link(row)?,
-            Command::BringIn { account, security, quantity } => {
-                register.move_securities(positions, Direction::In, account, security, quantity)?
+            Command::BringIn { account, security, quantity, day } => {
+                register.move_securities(positions, Direction::In, account, security, quantity, day)?
             }
-            Command::TakeOut { account, security, quantity } => {
-                register.move_securities(positions, Direction::Out, account, security, quantity)?
+            Command::TakeOut { account, security, quantity, day } => {
+                register.move_securities(positions, Direction::Out, account, security, quantity, day)?
             }
             Command::PayIn { account, amount } => register.move_cash(cash, Direction::In, account, amount)?,
             Command::PayOut { account, amount } => register.move_cash(cash, Direction::Out, account, amount)?,
-            Command::Settle { ref delivering, ref receiving } => {
-                return register.settle(positions, cash, Halves::by_place(delivering, receiving)).map(Done::Booked)
+            Command::Settle { ref delivering, ref receiving, day } => {
+                return register.settle(positions, cash, Halves::by_place(delivering, receiving), day).map(Done::Booked)
             }
-            Command::Derive { ref delivering, ref receiving } => {
-                return register.derive_halves(Halves::by_place(delivering, receiving)).map(Done::Chain)
+            Command::Derive { ref delivering, ref receiving, day } => {
+                return register.derive_halves(Halves::by_place(delivering, receiving), day).map(Done::Chain)
             }
-            Command::SettleSided { ref first, ref second } => {
-                return register.settle(positions, cash, Halves::by_side(first, second)).map(Done::Booked)
+            Command::SettleSided { ref first, ref second, day } => {
+                return register.settle(positions, cash, Halves::by_side(first, second), day).map(Done::Booked)
             }
-            Command::DeriveSided { ref first, ref second } => {
-                return register.derive_halves(Halves::by_side(first, second)).map(Done::Chain)
+            Command::DeriveSided { ref first, ref second, day } => {
+                return register.derive_halves(Halves::by_side(first, second), day).map(Done::Chain)
             }
         }
         Ok(Done::Accepted)

@@ -1,7 +1,8 @@
-//! Walks over the links of a security.
+//! Walks over the links that a security has on a day.
 
-use crate::numbers::{CsdNumber, CsdSet, SecurityNumber};
-use crate::register::Register;
+use crate::directory::Day;
+use crate::numbers::{AccountNumber, CsdNumber, CsdSet, SecurityNumber};
+use crate::register::{Register, Standing};
 
 /// "A side names at most 8 CSDs, start and external end counted."
 pub const SIDE: usize = 8;
@@ -32,10 +33,10 @@ impl Side {
     }
 }
 
-/// "A walk ends in one of four ways."
+/// "A walk ends in one of four ways." Inside it ends at the last CSD of its side, with that one's issuance account.
 #[derive(Clone, Copy, PartialEq, Eq, Debug)]
 pub enum WalkEnd {
-    Inside(CsdNumber),
+    Inside(AccountNumber),
     Outside(CsdNumber),
     NoLink,
     TooLong,
@@ -58,7 +59,7 @@ impl Walk {
 
 impl Register {
     /// The default walk from a CSD in T2S.
-    pub fn default_walk(&self, security: SecurityNumber, start: CsdNumber) -> Walk {
+    pub fn default_walk(&self, security: SecurityNumber, start: CsdNumber, day: Day) -> Walk {
         let mut side = Side::empty();
         let mut named = CsdSet::default();
         let mut csd = start;
@@ -68,20 +69,24 @@ impl Register {
             }
             side.push(csd);
             named.insert(csd);
-            if self.is_issuer(security, csd) {
-                break WalkEnd::Inside(csd);
-            }
-            match self.default_technical(security, csd) {
-                None => break WalkEnd::NoLink,
-                Some(_) if side.is_full() => break WalkEnd::TooLong,
-                Some(technical) => csd = technical,
+            match self.standing(security, csd, day) {
+                Standing::Issuer(issuance) => break WalkEnd::Inside(issuance),
+                Standing::NoLink => break WalkEnd::NoLink,
+                Standing::Investor(_) if side.is_full() => break WalkEnd::TooLong,
+                Standing::Investor(technical) => csd = technical,
             }
         };
         Walk { side, named, end }
     }
 
     /// The directed walk from a CSD in T2S to another, target included, where it reaches.
-    pub fn directed_walk(&self, security: SecurityNumber, start: CsdNumber, target: CsdNumber) -> Option<Side> {
+    pub fn directed_walk(
+        &self,
+        security: SecurityNumber,
+        start: CsdNumber,
+        target: CsdNumber,
+        day: Day,
+    ) -> Option<Side> {
         let mut side = Side::empty();
         let mut csd = start;
         loop {
@@ -89,11 +94,14 @@ impl Register {
             if side.is_full() {
                 return None;
             }
-            if self.technical_issuers(security, csd).contains(target) {
+            if self.links(security, csd).point_to(target, day) {
                 side.push(target);
                 return Some(side);
             }
-            csd = self.default_technical(security, csd).filter(|&technical| !self.is_external(technical))?;
+            match self.standing(security, csd, day) {
+                Standing::Investor(technical) if !self.is_external(technical) => csd = technical,
+                _ => return None,
+            }
         }
     }
 }

@@ -1,5 +1,5 @@
 //! Random trials, each by a seed. CHECKER_SEED repeats one seed, CHECKER_FIRST takes other seeds,
-//! CHECKER_STREAMS and CHECKER_STORES other numbers of them.
+//! CHECKER_STREAMS, CHECKER_STORES, CHECKER_LISTS and CHECKER_DAYS other numbers of them.
 
 use std::path::Path;
 use std::time::Instant;
@@ -68,6 +68,20 @@ fn streams() {
 fn single_calls() {
     let count = setting("CHECKER_STORES").unwrap_or(12_000);
     run("single_calls", &mut Model, differential::calls, count, Coverage::of_calls);
+}
+
+/// The links of other days are struck out, by the model.
+#[test]
+fn days() {
+    let count = setting("CHECKER_DAYS").unwrap_or(8_000);
+    run("days", &mut Model, differential::days, count, |_| Vec::new());
+}
+
+/// The same by the proved library.
+#[test]
+fn proved_days() {
+    let count = setting("CHECKER_DAYS").unwrap_or(4_000);
+    run("proved_days", &mut Proved::default(), differential::days, count, |_| Vec::new());
 }
 
 /// The proved library, held against the model.

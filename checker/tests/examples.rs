@@ -16,6 +16,8 @@ use checker::trial::implementation::{Answer, Call, Implementation, Model, Store}
 use checker::trial::scenario::{halves, Scenario};
 
 const SECURITY: u8 = 0;
+/// All links have days 0 to 65,535.
+const DAY: Day = 0;
 
 struct Example {
     scenario: Scenario,
@@ -134,7 +136,7 @@ impl Example {
         let (delivering, receiving) = halves(self.scenario.directory(), from, to, SECURITY, 100, 0);
         let mut steps = [Step::default(); 16];
         let halves = Halves::by_place(&delivering, &receiving);
-        let derived = desk::derive(self.scenario.directory(), &mut steps, halves);
+        let derived = desk::derive(self.scenario.directory(), &mut steps, halves, DAY);
         let derived = derived.map(|length| &steps[..length]).map_err(|refusal| refusal.number());
         self.agrees_with_settlement(from, to, derived);
         self.agrees_with_stream(from, to, derived);
@@ -159,7 +161,7 @@ impl Example {
         }
         for form in FORMS {
             let mut store = before.clone();
-            let answer = Model.call(&mut store, &Call::Command(form.settle(delivering, receiving)));
+            let answer = Model.call(&mut store, &Call::Command(form.settle(delivering, receiving, DAY)));
             assert_eq!(answer, derived.map_or_else(Answer::Refused, |steps| Answer::Booked(steps.len())), "{form:?}");
             assert!(store == due, "{form:?}");
         }
@@ -177,7 +179,7 @@ impl Example {
         };
         for form in FORMS {
             let mut bytes = self.scenario.bytes.clone();
-            form.derive(delivering, receiving).write(&mut bytes);
+            form.derive(delivering, receiving, DAY).write(&mut bytes);
             let text = String::from_utf8(checker::transcript(&bytes)).unwrap();
             assert!(text.contains(&due), "{form:?}: {text}");
         }
@@ -321,7 +323,7 @@ mod mistakes_to_expect {
         positions[usize::from(example.account("Omnibus C")) * 16].0 = 99;
         let (before, mut steps) = (positions.clone(), [Step::default(); 16]);
         let halves = Halves::by_place(&delivering, &receiving);
-        let answer = desk::settle(directory, &mut positions, &mut [Cents(0); 256], &mut steps, halves);
+        let answer = desk::settle(directory, &mut positions, &mut [Cents(0); 256], &mut steps, halves, DAY);
         assert_eq!(answer.map_err(|refusal| refusal.number()), Err(20));
         assert!(positions == before && steps == [Step::default(); 16]);
     }

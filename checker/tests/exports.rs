@@ -25,7 +25,7 @@ const SETTLE_SIDED: Tags = &[0x0C];
 const DERIVE_SIDED: Tags = &[0x0D];
 
 /// Up to more than the longest operands have.
-const LENGTHS: RangeInclusive<usize> = 0..=43;
+const LENGTHS: RangeInclusive<usize> = 0..=45;
 const STORES: usize = 8;
 
 /// Everything that an export may be lent.
@@ -129,7 +129,7 @@ fn every_byte_and_every_length() {
         }
     }
     println!("{} unknown, {} cut short, {} called", seen[1], seen[2], seen[0]);
-    let (others, widths) = (2 * 256 - 5 - 4, 12 + 12 + 2 + 8 + 7 + 11 + 11 + 10 + 10);
+    let (others, widths) = (2 * 256 - 5 - 4, 12 + 12 + 2 + 8 + 11 + 13 + 13 + 10 + 10);
     assert_eq!(seen[1..], [STORES * others * LENGTHS.count(), STORES * widths]);
 }
 
@@ -180,7 +180,7 @@ fn no_directory() {
             (SETTLE_SIDED, 0x0C),
             (DERIVE_SIDED, 0x0D),
         ] {
-            for length in [0, 40, 42] {
+            for length in [0, 42, 44] {
                 assert_eq!(lent.send(tags, tag, &junk(&mut random, length)), MISFIT);
             }
         }
@@ -240,10 +240,10 @@ fn steps_below_sixteen() {
     };
     let mut random = Random::new(6);
     for (tags, command) in [
-        (SETTLE, Form::ByPlace.settle(delivering, receiving)),
-        (DERIVE, Form::ByPlace.derive(delivering, receiving)),
-        (SETTLE_SIDED, Form::ReceivingFirst.settle(delivering, receiving)),
-        (DERIVE_SIDED, Form::ReceivingFirst.derive(delivering, receiving)),
+        (SETTLE, Form::ByPlace.settle(delivering, receiving, 0)),
+        (DERIVE, Form::ByPlace.derive(delivering, receiving, 0)),
+        (SETTLE_SIDED, Form::ReceivingFirst.settle(delivering, receiving, 0)),
+        (DERIVE_SIDED, Form::ReceivingFirst.derive(delivering, receiving, 0)),
     ] {
         let mut bytes = Vec::new();
         command.write(&mut bytes);

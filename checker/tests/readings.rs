@@ -55,7 +55,8 @@ fn pair(scenario: &mut Scenario, investor: u8, technical: u8, one: u16, other: u
 
 /// The refusal of a link row in security 0, 0 for none.
 fn link(scenario: &mut Scenario, kind: u8, csd: u8, technical: u8, flag: u8, account: u16) -> u8 {
-    number(scenario.send(Command::EnterLink(Link { security: 0, kind, csd, technical, flag, account })))
+    let days = scenario.days;
+    number(scenario.send(Command::EnterLink(Link { security: 0, kind, csd, technical, flag, account, days })))
 }
 
 #[test]
@@ -63,7 +64,8 @@ fn ff_where_a_row_is_due_in_any_case_is_6_beside_a_bad_kind() {
     let mut s = fixture();
     assert_eq!(number(s.send(Command::EnterAccount(Account { csd: FF, kind: 9 }))), 6);
     assert_eq!(link(&mut s, 9, FF, FF, 1, FFFF), 6);
-    let row = Link { security: FF, kind: 9, csd: A, technical: FF, flag: 1, account: FFFF };
+    let days = Period::ALWAYS;
+    let row = Link { security: FF, kind: 9, csd: A, technical: FF, flag: 1, account: FFFF, days };
     assert_eq!(number(s.send(Command::EnterLink(row))), 6);
 }
 
@@ -106,7 +108,8 @@ fn external_csds_in_links() {
 fn one_issuance_account_serves_several_links() {
     let mut s = fixture();
     assert_eq!(link(&mut s, ISSUER, A, FF, 1, account(A, ISSUANCE)), 0);
-    let row = Link { security: 1, kind: ISSUER, csd: A, technical: FF, flag: 1, account: account(A, ISSUANCE) };
+    let (account, days) = (account(A, ISSUANCE), Period::ALWAYS);
+    let row = Link { security: 1, kind: ISSUER, csd: A, technical: FF, flag: 1, account, days };
     assert_eq!(number(s.send(Command::EnterLink(row))), 0);
 }
 
@@ -186,7 +189,7 @@ fn trade() -> (Scenario, Half, Half) {
 #[test]
 fn halves_are_judged_number_by_number() {
     let (mut s, d, r) = trade();
-    let mut refusal = |delivering, receiving| number(s.send(Command::Derive { delivering, receiving }));
+    let mut refusal = |delivering, receiving| number(s.send(Command::Derive { delivering, receiving, day: 0 }));
     let wrong_kind = Half { account: account(B, MIRROR), ..d };
     assert_eq!(refusal(Half { quantity: Units(0), ..d }, Half { counterpart: 9, ..r }), 6);
     assert_eq!(refusal(wrong_kind, Half { amount: Cents(-1), ..r }), 7);
@@ -205,7 +208,7 @@ fn settle(position: i64, cash: i64, amount: i64) -> (Answer, i64) {
     store.positions[place] = Units(position);
     store.cash[usize::from(receiving.account)] = Cents(cash);
     let pay = |half| Half { amount: Cents(amount), ..half };
-    let command = Command::Settle { delivering: pay(delivering), receiving: pay(receiving) };
+    let command = Command::Settle { delivering: pay(delivering), receiving: pay(receiving), day: 0 };
     let answer = Model.call(&mut store, &Call::Command(command));
     (answer, store.positions[place].0)
 }
@@ -252,7 +255,7 @@ fn lists_come_before_soundness_and_soundness_before_full_tables() {
     let mut store = Store { directory: s.directory().clone(), ..Store::empty() };
     store.directory.csds.count = 33;
     let mut call = |command| Model.call(&mut store, &Call::Command(command));
-    assert_eq!(call(Command::Derive { delivering, receiving }), Answer::Refused(3));
+    assert_eq!(call(Command::Derive { delivering, receiving, day: 0 }), Answer::Refused(3));
     assert_eq!(call(Command::EnterCsd(Csd { kind: 9, bic: [0; 11] })), Answer::Refused(4));
     assert_eq!(call(Command::PayIn { account: FFFF, amount: Cents(0) }), Answer::Refused(4));
     store.directory.csds.count = 5;
@@ -276,10 +279,10 @@ mod sides {
     fn refusal(s: &mut Scenario, sides: [u8; 2], one: Half, other: Half) -> u8 {
         let (first, second) = (SidedHalf { side: sides[0], half: one }, SidedHalf { side: sides[1], half: other });
         let numbers = [
-            Command::DeriveSided { first, second },
-            Command::DeriveSided { first: second, second: first },
-            Command::SettleSided { first, second },
-            Command::SettleSided { first: second, second: first },
+            Command::DeriveSided { first, second, day: 0 },
+            Command::DeriveSided { first: second, second: first, day: 0 },
+            Command::SettleSided { first, second, day: 0 },
+            Command::SettleSided { first: second, second: first, day: 0 },
         ]
         .map(|command| number(s.send(command)));
         assert_eq!(numbers, [numbers[0]; 4], "sides {sides:02X?}");
@@ -351,7 +354,7 @@ mod sides {
         assert_eq!(refusal(&mut s, [0, 1], unlinked.0, unlinked.1), 14);
         let mut store = Store { directory: s.directory().clone(), ..Store::empty() };
         let first = SidedHalf { side: 2, half: d };
-        let command = Command::DeriveSided { first, second: SidedHalf { side: 2, half: r } };
+        let command = Command::DeriveSided { first, second: SidedHalf { side: 2, half: r }, day: 0 };
         assert_eq!(Model.call(&mut store, &Call::Command(command)), Answer::Refused(3));
         store.steps = vec![Step::default(); 16];
         store.directory.csds.count = 33;
@@ -367,8 +370,8 @@ mod sides {
         for form in FORMS {
             for (from, to, due) in [(inside, outside, 16), (outside, inside, 17)] {
                 let (delivering, receiving) = halves(s.directory(), from, to, 0, 5, 0);
-                assert_eq!(number(s.send(form.derive(delivering, receiving))), due, "{form:?}");
-                assert_eq!(number(s.send(form.settle(delivering, receiving))), due, "{form:?}");
+                assert_eq!(number(s.send(form.derive(delivering, receiving, 0))), due, "{form:?}");
+                assert_eq!(number(s.send(form.settle(delivering, receiving, 0))), due, "{form:?}");
             }
         }
     }
@@ -377,8 +380,8 @@ mod sides {
     fn printed(s: &Scenario, form: Form, delivering: Half, receiving: Half) -> String {
         let mut bytes = s.bytes.clone();
         let before = String::from_utf8(checker::transcript(&bytes)).unwrap().find("total").unwrap();
-        form.settle(delivering, receiving).write(&mut bytes);
-        form.derive(delivering, receiving).write(&mut bytes);
+        form.settle(delivering, receiving, 0).write(&mut bytes);
+        form.derive(delivering, receiving, 0).write(&mut bytes);
         String::from_utf8(checker::transcript(&bytes)).unwrap()[before..].into()
     }
 
@@ -403,7 +406,7 @@ mod sides {
         for form in FORMS {
             let (mut s, d, r) = funded();
             let paid = |half| Half { amount: Cents(7), ..half };
-            assert_eq!(number(s.send(form.settle(paid(d), paid(r)))), 0);
+            assert_eq!(number(s.send(form.settle(paid(d), paid(r), 0))), 0);
             assert_eq!([d, r].map(|half| s.session.cash()[usize::from(half.account)].0), [107, 93], "{form:?}");
             let units = |half: Half| s.session.positions()[usize::from(half.account) * SECURITIES].0;
             assert_eq!([units(d), units(r)], [95, 5], "{form:?}");
@@ -415,8 +418,8 @@ mod sides {
         let (s, d, r) = funded();
         for form in [Form::DeliveringFirst, Form::ReceivingFirst] {
             let mut bytes = s.bytes.clone();
-            form.settle(d, r).write(&mut bytes);
-            assert_eq!(bytes.len(), s.bytes.len() + 43);
+            form.settle(d, r, 0).write(&mut bytes);
+            assert_eq!(bytes.len(), s.bytes.len() + 45);
             bytes.pop();
             let text = String::from_utf8(checker::transcript(&bytes)).unwrap();
             assert!(text.contains(" no 2\ntotal"), "{text}");
@@ -452,7 +455,7 @@ mod segregated {
         let derived = FORMS.map(|form| {
             let mut store = Store { directory: s.directory().clone(), ..Store::empty() };
             store.steps = vec![Step::default(); 16];
-            match Model.call(&mut store, &Call::Command(form.derive(delivering, receiving))) {
+            match Model.call(&mut store, &Call::Command(form.derive(delivering, receiving, 0))) {
                 Answer::Chain(length) => Ok(store.steps[..length].to_vec()),
                 Answer::Refused(number) => Err(number),
                 answer => panic!("{answer:?} to a derivation"),
@@ -800,5 +803,351 @@ mod segregated {
         assert_eq!(answer(|directory| directory.pairs.rows[1].technical_account = 11), Answer::Refused(4));
         assert_eq!(answer(|directory| directory.pairs.rows[2].served = FFFF), Answer::Accepted);
         assert_eq!(answer(|directory| directory.pairs.count = 513), Answer::Refused(4));
+    }
+}
+
+/// Document 02, ask 5: "Links have days".
+mod days {
+    use super::*;
+    use checker::trial::literal::day_of;
+    use checker::trial::scenario::isin_of;
+
+    const MAX: Day = Day::MAX;
+
+    fn participant(csd: u8) -> u16 {
+        account(csd, PARTICIPANT)
+    }
+
+    /// The refusal of a link with days in security 0, 0 for none.
+    fn dated(s: &mut Scenario, kind: u8, csd: u8, technical: u8, flag: u8, account: u16, days: (Day, Day)) -> u8 {
+        s.days = Period::new(days.0, days.1);
+        let number = link(s, kind, csd, technical, flag, account);
+        s.days = Period::ALWAYS;
+        number
+    }
+
+    fn default(s: &mut Scenario, csd: u8, technical: u8, first: Day, last: Day) -> u8 {
+        dated(s, INVESTOR, csd, technical, DEFAULT, FFFF, (first, last))
+    }
+
+    fn alternative(s: &mut Scenario, csd: u8, technical: u8, first: Day, last: Day) -> u8 {
+        dated(s, INVESTOR, csd, technical, ALTERNATIVE, FFFF, (first, last))
+    }
+
+    fn issuer(s: &mut Scenario, csd: u8, first: Day, last: Day) -> u8 {
+        dated(s, ISSUER, csd, FF, DEFAULT, account(csd, ISSUANCE), (first, last))
+    }
+
+    /// The CSDs of a chain in security 0 on a day, or the refusal.
+    fn chain(s: &Scenario, from: u16, to: u16, day: Day) -> Result<Vec<u8>, u8> {
+        let (delivering, receiving) = halves(s.directory(), from, to, 0, 5, 0);
+        let derived = FORMS.map(|form| {
+            let mut store = Store { directory: s.directory().clone(), ..Store::empty() };
+            store.steps = vec![Step::default(); 16];
+            match Model.call(&mut store, &Call::Command(form.derive(delivering, receiving, day))) {
+                Answer::Chain(length) => Ok(store.steps[..length].iter().map(|step| step.csd).collect()),
+                Answer::Refused(number) => Err(number),
+                answer => panic!("{answer:?} to a derivation"),
+            }
+        });
+        assert!(derived[1..].iter().all(|other| *other == derived[0]));
+        derived[0].clone()
+    }
+
+    /// B issues, and every participant has rows towards B, A and C.
+    fn served() -> Scenario {
+        let mut s = fixture();
+        assert_eq!(issuer(&mut s, B, 0, MAX), 0);
+        let hops = [(A, B), (A, C), (C, B), (C, A), (A, X), (C, X)];
+        s.serve_along(&[A, B, C].map(participant), &hops, |_| Some(0));
+        s
+    }
+
+    #[test]
+    fn commands_end_with_their_days() {
+        let (_, delivering, receiving) = trade();
+        let (first, second) = (SidedHalf { side: 0, half: delivering }, SidedHalf { side: 1, half: receiving });
+        let (account, security, quantity, day) = (0x0102, 3, Units(4), 0xABCD);
+        let link = Link { days: Period::new(0x1234, 0x5678), ..Link::default() };
+        let widths = [
+            (Command::EnterLink(link), 11, &[0x12, 0x34, 0x56, 0x78][..]),
+            (Command::BringIn { account, security, quantity, day }, 13, &[0xAB, 0xCD]),
+            (Command::TakeOut { account, security, quantity, day }, 13, &[0xAB, 0xCD]),
+            (Command::Settle { delivering, receiving, day }, 42, &[0xAB, 0xCD]),
+            (Command::Derive { delivering, receiving, day }, 42, &[0xAB, 0xCD]),
+            (Command::SettleSided { first, second, day }, 44, &[0xAB, 0xCD]),
+            (Command::DeriveSided { first, second, day }, 44, &[0xAB, 0xCD]),
+            (Command::PayIn { account, amount: Cents(1) }, 10, &[1]),
+            (Command::PayOut { account, amount: Cents(1) }, 10, &[1]),
+            (Command::EnterPair(Pair { served: 7, ..Pair::default() }), 8, &[0, 7]),
+        ];
+        for (command, width, end) in widths {
+            let mut bytes = Vec::new();
+            command.write(&mut bytes);
+            assert_eq!(bytes.len(), 1 + width, "{command:?}");
+            assert!(bytes.ends_with(end), "{command:?}");
+            assert_eq!(day_of(&command).is_some(), end == [0xAB, 0xCD]);
+            let text = |bytes: &[u8]| String::from_utf8(checker::transcript(bytes)).unwrap();
+            assert_eq!(text(&bytes), "1 no 6\ncash 0\n", "{command:?}");
+            assert_eq!(text(&bytes[..width]), "1 no 2\ncash 0\n", "{command:?}");
+        }
+    }
+
+    #[test]
+    fn the_example_of_document_01() {
+        let mut s = Scenario::default();
+        let [zero, one] = [s.csd(IN_T2S), s.csd(IN_T2S)];
+        assert_eq!(s.security(), 0);
+        assert_eq!(isin_of(0), *b"XS0000000009");
+        for (csd, kind) in [(zero, PARTICIPANT), (zero, MIRROR), (one, OMNIBUS), (one, ISSUANCE), (one, PARTICIPANT)] {
+            s.account(csd, kind);
+        }
+        assert_eq!(row(&mut s, zero, one, 1, 2, 0), 0);
+        assert_eq!(dated(&mut s, ISSUER, one, FF, DEFAULT, 3, (0, 65_535)), 0);
+        assert_eq!(default(&mut s, zero, one, 0, 65_535), 0);
+        s.day = 0;
+        assert_eq!(number(s.bring_in(4, 0, 100)), 0);
+        assert_eq!(number(s.settle(4, 0, 0, 40, 0)), 0);
+        let text = String::from_utf8(checker::transcript(&s.bytes)).unwrap();
+        assert!(text.ends_with("12 ok\n13 booked 2\n- 1 4 2\n- 0 1 0\ntotal XS0000000009 100\ncash 0\n"), "{text}");
+    }
+
+    #[test]
+    fn both_days_are_included() {
+        let mut s = served();
+        assert_eq!(default(&mut s, A, B, 10, 19), 0);
+        for (day, due) in
+            [(9, Err(14)), (10, Ok(vec![A, B])), (15, Ok(vec![A, B])), (19, Ok(vec![A, B])), (20, Err(14))]
+        {
+            assert_eq!(chain(&s, participant(A), participant(B), day), due, "day {day}");
+        }
+        let mut s = served();
+        assert_eq!(default(&mut s, A, B, 7, 7), 0);
+        let lengths = [6, 7, 8].map(|day| chain(&s, participant(A), participant(B), day).map(|csds| csds.len()));
+        assert_eq!(lengths, [Err(14), Ok(2), Err(14)]);
+    }
+
+    #[test]
+    fn ffff_is_a_day_like_any_other() {
+        let mut s = served();
+        assert_eq!(default(&mut s, A, B, 0, MAX - 1), 0);
+        assert_eq!(chain(&s, participant(A), participant(B), MAX), Err(14));
+        assert_eq!(default(&mut s, A, C, MAX, MAX), 0);
+        assert_eq!(chain(&s, participant(A), participant(B), MAX), Err(14));
+        assert_eq!(default(&mut s, C, B, MAX, MAX), 0);
+        assert_eq!(chain(&s, participant(A), participant(B), MAX), Ok(vec![A, C, B]));
+        assert_eq!(chain(&s, participant(A), participant(B), MAX - 1), Ok(vec![A, B]));
+        assert_eq!(default(&mut s, A, X, MAX, 0), 24);
+    }
+
+    #[test]
+    fn first_after_last_comes_after_10_and_before_11() {
+        let mut s = fixture();
+        let issuance = account(A, ISSUANCE);
+        for days in [(1, 0), (MAX, 0), (MAX, MAX - 1)] {
+            assert_eq!(dated(&mut s, ISSUER, A, FF, DEFAULT, FFFF, days), 6);
+            assert_eq!(dated(&mut s, INVESTOR, A, B, 2, FFFF, days), 7);
+            assert_eq!(dated(&mut s, ISSUER, A, FF, DEFAULT, account(A, MIRROR), days), 10);
+            assert_eq!(dated(&mut s, ISSUER, A, FF, DEFAULT, account(B, ISSUANCE), days), 10);
+            assert_eq!(dated(&mut s, ISSUER, A, FF, DEFAULT, issuance, days), 24);
+            assert_eq!(dated(&mut s, ISSUER, A, FF, ALTERNATIVE, issuance, days), 24);
+            assert_eq!(dated(&mut s, ISSUER, A, B, DEFAULT, issuance, days), 24);
+            assert_eq!(dated(&mut s, INVESTOR, A, A, DEFAULT, FFFF, days), 24);
+            assert_eq!(dated(&mut s, INVESTOR, A, B, ALTERNATIVE, FFFF, days), 24);
+            assert_eq!(dated(&mut s, INVESTOR, A, B, DEFAULT, issuance, days), 24);
+        }
+        assert_eq!(s.directory().links.count, 0);
+    }
+
+    #[test]
+    fn a_period_without_a_day_shares_none() {
+        let mut s = fixture();
+        assert_eq!(default(&mut s, A, B, 0, MAX), 0);
+        assert_eq!(issuer(&mut s, B, 0, MAX), 0);
+        for (first, last) in [(20, 10), (1, 0), (MAX, 0)] {
+            assert_eq!(default(&mut s, A, B, first, last), 24);
+            assert_eq!(alternative(&mut s, A, B, first, last), 24);
+            assert_eq!(default(&mut s, A, C, first, last), 24);
+            assert_eq!(issuer(&mut s, B, first, last), 24);
+        }
+        assert_eq!(default(&mut s, A, B, 10, 20), 9);
+    }
+
+    #[test]
+    fn defaults_meet_on_no_day() {
+        let mut s = fixture();
+        assert_eq!(default(&mut s, A, B, 10, 19), 0);
+        for (first, last) in [(10, 19), (0, 10), (19, 30), (12, 13), (0, MAX)] {
+            assert_eq!(default(&mut s, A, C, first, last), 11, "{first} to {last}");
+            assert_eq!(default(&mut s, A, B, first, last), 9, "{first} to {last}");
+        }
+        // A later link may be a default, before and behind the first.
+        assert_eq!(default(&mut s, A, C, 20, 29), 0);
+        assert_eq!(default(&mut s, A, B, 0, 9), 0);
+        assert_eq!(default(&mut s, A, X, 40, MAX), 0);
+        assert_eq!(default(&mut s, A, Y, 29, 40), 11);
+        assert_eq!(default(&mut s, A, Y, 30, 39), 0);
+    }
+
+    #[test]
+    fn an_alternative_needs_a_default_on_each_of_its_days() {
+        let mut s = fixture();
+        assert_eq!(alternative(&mut s, A, C, 10, 19), 11);
+        assert_eq!(default(&mut s, A, B, 10, 19), 0);
+        for (first, last) in [(9, 19), (10, 20), (9, 9), (20, 20), (0, MAX)] {
+            assert_eq!(alternative(&mut s, A, C, first, last), 11, "{first} to {last}");
+        }
+        assert_eq!(alternative(&mut s, A, C, 10, 19), 0);
+        // Defaults that follow one another give that together, whatever the order of their entry.
+        let other = s.csd(IN_T2S);
+        assert_eq!(default(&mut s, A, X, 30, 39), 0);
+        assert_eq!(alternative(&mut s, A, other, 15, 35), 11);
+        assert_eq!(default(&mut s, A, B, 21, 29), 0);
+        assert_eq!(alternative(&mut s, A, other, 15, 35), 11);
+        assert_eq!(default(&mut s, A, Y, 20, 20), 0);
+        assert_eq!(alternative(&mut s, A, other, 15, 35), 0);
+        // A default at its ends is not enough.
+        assert_eq!(default(&mut s, A, B, 41, 41), 0);
+        assert_eq!(alternative(&mut s, A, C, 39, 41), 11);
+    }
+
+    #[test]
+    fn the_same_technical_issuer_is_9_only_on_a_shared_day() {
+        let mut s = fixture();
+        assert_eq!(default(&mut s, A, B, 0, 19), 0);
+        assert_eq!(alternative(&mut s, A, C, 5, 9), 0);
+        assert_eq!(alternative(&mut s, A, C, 9, 12), 9);
+        assert_eq!(alternative(&mut s, A, C, 0, 5), 9);
+        assert_eq!(alternative(&mut s, A, B, 19, 19), 9);
+        assert_eq!(alternative(&mut s, A, C, 10, 12), 0);
+        assert_eq!(default(&mut s, A, C, 20, 29), 0);
+        assert_eq!(alternative(&mut s, A, B, 20, 29), 0);
+        // 9 comes before the default that is missing, and before the one that is there.
+        assert_eq!(alternative(&mut s, A, C, 29, 40), 9);
+        assert_eq!(default(&mut s, A, B, 25, 40), 9);
+        // An issuer link may name no technical issuer, but is 9 first where it does.
+        assert_eq!(dated(&mut s, ISSUER, A, B, DEFAULT, account(A, ISSUANCE), (19, 19)), 9);
+        assert_eq!(dated(&mut s, ISSUER, A, B, DEFAULT, account(A, ISSUANCE), (30, 39)), 11);
+    }
+
+    #[test]
+    fn an_issuer_link_shares_no_day_with_another_link() {
+        let mut s = fixture();
+        assert_eq!(issuer(&mut s, A, 10, 19), 0);
+        for (first, last) in [(10, 19), (0, 10), (19, 30), (12, 13)] {
+            assert_eq!(issuer(&mut s, A, first, last), 11);
+            assert_eq!(default(&mut s, A, B, first, last), 11);
+            assert_eq!(alternative(&mut s, A, B, first, last), 11);
+        }
+        assert_eq!(issuer(&mut s, A, 20, 29), 0);
+        assert_eq!(default(&mut s, A, B, 30, 39), 0);
+        assert_eq!(alternative(&mut s, A, C, 30, 39), 0);
+        assert_eq!(issuer(&mut s, A, 39, 49), 11);
+        assert_eq!(issuer(&mut s, A, 0, 9), 0);
+        assert_eq!(alternative(&mut s, A, C, 29, 29), 11);
+        // External issuers likewise.
+        assert_eq!(dated(&mut s, ISSUER, X, FF, DEFAULT, FFFF, (0, 9)), 0);
+        assert_eq!(dated(&mut s, ISSUER, X, FF, DEFAULT, FFFF, (9, 9)), 11);
+        assert_eq!(default(&mut s, X, A, 10, 19), 0);
+    }
+
+    #[test]
+    fn an_issuance_position_may_end_above_0_where_an_issuer_becomes_an_investor() {
+        let mut s = served();
+        assert_eq!(issuer(&mut s, A, 0, 9), 0);
+        assert_eq!(default(&mut s, A, B, 10, 19), 0);
+        assert_eq!(issuer(&mut s, A, 20, 29), 0);
+        let (a, b) = (participant(A), participant(B));
+        for (day, from, to) in [(10, b, a), (20, a, b)] {
+            s.day = day;
+            s.bring_in(b, 0, 100).ok();
+            assert_eq!(number(s.settle(from, to, 0, 100, 0)), 0, "day {day}");
+        }
+        let held = |account: u16| s.session.positions()[usize::from(account) * SECURITIES].0;
+        assert_eq!([a, account(A, ISSUANCE), b, account(B, ISSUANCE)].map(held), [0, 100, 200, -300]);
+    }
+
+    #[test]
+    fn bring_in_and_take_out_see_the_links_of_their_day() {
+        let mut s = served();
+        assert_eq!(issuer(&mut s, A, 0, 9), 0);
+        assert_eq!(default(&mut s, A, X, 10, 19), 0);
+        assert_eq!(default(&mut s, A, B, 30, 39), 0);
+        for (day, due) in [(0, 0), (9, 0), (10, 0), (19, 0), (20, 19), (29, 19), (30, 19), (40, 19), (MAX, 19)] {
+            s.day = day;
+            assert_eq!(number(s.bring_in(participant(A), 0, 10)), due, "day {day}");
+            assert_eq!(number(s.take_out(participant(A), 0, 1)), due, "day {day}");
+        }
+        let held = |account: u16| s.session.positions()[usize::from(account) * SECURITIES].0;
+        let outside = s.directory().pairs.rows.iter().find(|row| row.technical == X && row.served == participant(A));
+        let own = [participant(A), account(A, ISSUANCE), outside.unwrap().investor_account];
+        assert_eq!(own.map(held), [36, -18, -18]);
+    }
+
+    #[test]
+    fn directed_walks_see_the_links_of_their_day() {
+        let mut s = served();
+        assert_eq!(default(&mut s, A, X, 0, MAX), 0);
+        assert_eq!(alternative(&mut s, A, B, 10, 19), 0);
+        let (a, b) = (participant(A), participant(B));
+        for day in [0, 9, 20, MAX] {
+            assert_eq!([chain(&s, a, b, day), chain(&s, b, a, day)], [Err(17), Err(16)], "day {day}");
+        }
+        for day in [10, 19] {
+            assert_eq!([chain(&s, a, b, day), chain(&s, b, a, day)], [Ok(vec![A, B]), Ok(vec![B, A])], "day {day}");
+        }
+    }
+
+    #[test]
+    fn pair_rows_and_accounts_have_no_days() {
+        let mut s = fixture();
+        assert_eq!(issuer(&mut s, B, 0, MAX), 0);
+        assert_eq!(default(&mut s, A, B, 10, 19), 0);
+        assert_eq!(default(&mut s, A, C, 20, 29), 0);
+        assert_eq!(default(&mut s, C, B, 20, 29), 0);
+        assert_eq!(chain(&s, participant(A), participant(B), 10), Err(18));
+        s.serve(participant(A), B, 0);
+        assert_eq!(chain(&s, participant(A), participant(B), 19), Ok(vec![A, B]));
+        assert_eq!(chain(&s, participant(A), participant(B), 20), Err(18));
+        s.climb(participant(A), &[A, C, B], 0);
+        assert_eq!(chain(&s, participant(A), participant(B), 29), Ok(vec![A, C, B]));
+        // One CSD alone reads no link.
+        let second = s.account(A, PARTICIPANT);
+        assert_eq!(chain(&s, participant(A), second, MAX), Ok(vec![A]));
+    }
+
+    #[test]
+    fn soundness_replays_links_in_table_order_with_their_days() {
+        let mut s = fixture();
+        assert_eq!(default(&mut s, A, B, 0, 9), 0);
+        assert_eq!(default(&mut s, A, C, 10, 19), 0);
+        assert_eq!(alternative(&mut s, A, B, 10, 15), 0);
+        let answer = |change: fn(&mut Table<Link, LINKS>)| {
+            let mut store = Store { directory: s.directory().clone(), ..Store::empty() };
+            change(&mut store.directory.links);
+            Model.call(&mut store, &Call::Command(Command::PayIn { account: 0, amount: Cents(1) }))
+        };
+        assert_eq!(answer(|_| {}), Answer::Accepted);
+        assert_eq!(answer(|links| links.rows[0].days.last = 10), Answer::Refused(4));
+        assert_eq!(answer(|links| links.rows[0].days = Period::new(9, 8)), Answer::Refused(4));
+        assert_eq!(answer(|links| links.rows[1].days.last = 14), Answer::Refused(4));
+        assert_eq!(answer(|links| links.rows[1].days.last = 15), Answer::Accepted);
+        assert_eq!(answer(|links| links.rows[2].days.first = 9), Answer::Refused(4));
+        assert_eq!(answer(|links| links.rows.swap(0, 1)), Answer::Accepted);
+        assert_eq!(answer(|links| links.rows.swap(1, 2)), Answer::Refused(4));
+        assert_eq!(answer(|links| links.rows[3].days = Period::new(9, 8)), Answer::Accepted);
+    }
+
+    #[test]
+    fn five_comes_before_a_period_without_a_day() {
+        let mut s = fixture();
+        for first in 0..LINKS as Day {
+            assert_eq!(default(&mut s, A, B, first, first), 0);
+        }
+        assert_eq!(default(&mut s, A, B, 9, 8), 5);
+        assert_eq!(default(&mut s, A, B, 500, 500), 5);
+        s.serve(participant(A), B, 0);
+        let lengths = [127, 128].map(|day| chain(&s, participant(A), participant(B), day).map(|csds| csds.len()));
+        assert_eq!(lengths, [Ok(2), Err(14)]);
     }
 }

@@ -4,12 +4,12 @@
 use checker::booking::SidedHalf;
 use checker::chain::Step;
 use checker::command::{Command, Reader};
-use checker::directory::{Bic, Csd, Isin, Pair};
+use checker::directory::{Bic, Csd, Day, Isin, Link, Pair, Period, Table, ALTERNATIVE};
 use checker::trial::climbs::{Found, Source, Turn};
 use checker::trial::coverage::Coverage;
 use checker::trial::implementation::{Answer, Call, Implementation, Model, Program, Store};
-use checker::trial::literal::{in_order, Asked, LookUp, Rows};
-use checker::trial::{differential, pairing, streams};
+use checker::trial::literal::{day_of, in_order, Asked, LookUp, Rows};
+use checker::trial::{differential, linking, pairing, streams};
 
 /// A change of the model's answer and of the store that it left, given the store before.
 trait Mistake: Fn(&Call, &Store, &mut Store, Answer) -> Answer + Copy {}
@@ -29,6 +29,15 @@ impl<M: Mistake> Implementation for WrongDesk<M> {
         let before = store.clone();
         let answer = Model.call(store, call);
         (self.0)(call, &before, store, answer)
+    }
+}
+
+/// The rows before a call, with the links of its day alone.
+fn rows_on_day(call: &Call, before: &Store) -> Rows {
+    let rows = Rows::from(&before.directory);
+    match call {
+        Call::Command(command) => day_of(command).map_or(rows.clone(), |day| rows.on(day)),
+        _ => rows,
     }
 }
 
@@ -146,7 +155,7 @@ mod sides {
     /// The two halves of a sided call.
     fn sided(call: &Call) -> Option<[SidedHalf; 2]> {
         match *call {
-            Call::Command(Command::SettleSided { first, second } | Command::DeriveSided { first, second }) => {
+            Call::Command(Command::SettleSided { first, second, .. } | Command::DeriveSided { first, second, .. }) => {
                 Some([first, second])
             }
             _ => None,
@@ -156,7 +165,7 @@ mod sides {
     /// What the model answers and leaves where the call has these sides instead.
     fn with_sides(call: &Call, sides: [u8; 2], before: &Store, store: &mut Store) -> Answer {
         let mut command = *call;
-        if let Call::Command(Command::SettleSided { first, second } | Command::DeriveSided { first, second }) =
+        if let Call::Command(Command::SettleSided { first, second, .. } | Command::DeriveSided { first, second, .. }) =
             &mut command
         {
             [first.side, second.side] = sides;
@@ -345,7 +354,7 @@ mod segregated {
                 return answer;
             };
             let Some((delivering, receiving)) = in_order(command) else { return answer };
-            let rows = Rows::from(&before.directory);
+            let rows = rows_on_day(call, before);
             match rows.chain_by(row, delivering.security, delivering.account, receiving.account) {
                 Ok((_, steps)) => with_steps(&steps, command, before, store, answer),
                 Err(number) => {
@@ -441,7 +450,7 @@ mod segregated {
     fn the_chain_goes_on_where_the_sides_have_different_omnibus_accounts() {
         is_caught(|call, before, store, answer| match (call, answer) {
             (Call::Command(command), Answer::Booked(length) | Answer::Chain(length)) => {
-                let rows = Rows::from(&before.directory);
+                let rows = rows_on_day(call, before);
                 match beyond_the_turn(&rows, command, &store.steps[..length]) {
                     Some(steps) => with_steps(&steps, command, before, store, answer),
                     None => answer,
@@ -464,7 +473,7 @@ mod segregated {
     #[test]
     fn bring_in_draws_on_the_first_inter_csd_account() {
         is_caught(|call, before, store, answer| {
-            let rows = Rows::from(&before.directory);
+            let rows = rows_on_day(call, before);
             let Some((security, account)) = moved(call).filter(|_| answer == Answer::Accepted) else { return answer };
             let Some(Source::InterCsd(Found::OtherAccounts)) = rows.source_way(security, account) else {
                 return answer;
@@ -485,7 +494,7 @@ mod segregated {
     fn bring_in_without_a_row_is_18() {
         is_caught(|call, before, _, answer| match (moved(call), answer) {
             (Some((security, account)), Answer::Refused(19)) => {
-                match Rows::from(&before.directory).source_way(security, account) {
+                match rows_on_day(call, before).source_way(security, account) {
                     Some(Source::InterCsd(_)) => Answer::Refused(18),
                     _ => answer,
                 }
@@ -657,7 +666,7 @@ mod isins {
 
     /// The digit as it counts at a place, every other one doubled.
     fn counted(place: usize, digit: u32) -> u32 {
-        if place % 2 == 0 {
+        if place.is_multiple_of(2) {
             2 * digit / 10 + 2 * digit % 10
         } else {
             digit
@@ -668,7 +677,7 @@ mod isins {
     fn caught_by(sum: fn(&Isin) -> u32) {
         is_caught(|call, before, store, answer| {
             let Call::Command(Command::EnterSecurity(new)) = call else { return answer };
-            let fits = |isin: &Isin| (sum(isin) + u32::from(isin[11] - b'0')) % 10 == 0;
+            let fits = |isin: &Isin| (sum(isin) + u32::from(isin[11] - b'0')).is_multiple_of(10);
             match answer {
                 Answer::Accepted if !fits(&new.isin) => {
                     store.clone_from(before);
@@ -703,6 +712,198 @@ mod isins {
         caught_by(|isin| {
             let written: String = isin[..11].iter().map(|&b| char::from(b).to_digit(36).unwrap().to_string()).collect();
             written.bytes().enumerate().map(|(place, byte)| counted(place, u32::from(byte - b'0'))).sum()
+        });
+    }
+}
+
+/// Document 02, ask 5: "Links have days".
+mod days {
+    use super::*;
+
+    /// Other links are seen on a day than those valid on it. Where these would make no directory, the answer stays.
+    fn seeing(sees: fn(&Call, &Link, Day) -> bool) -> impl Mistake {
+        move |call: &Call, before: &Store, store: &mut Store, answer| {
+            let Call::Command(command) = call else { return answer };
+            let (Some(day), false) = (day_of(command), matches!(answer, Answer::Refused(3..=4))) else { return answer };
+            let mut left = before.clone();
+            let links = before.directory.links.entered().unwrap_or_default();
+            let seen: Vec<Link> = links.iter().filter(|link| sees(call, link, day)).copied().collect();
+            left.directory.links = table_of(&seen);
+            let other = Model.call(&mut left, call);
+            if other == Answer::Refused(4) {
+                return answer;
+            }
+            left.directory.clone_from(&before.directory);
+            store.clone_from(&left);
+            other
+        }
+    }
+
+    /// Links that are valid on every day.
+    fn table_of<const LIMIT: usize>(links: &[Link]) -> Table<Link, LIMIT> {
+        let mut table = Table { count: links.len(), ..Table::default() };
+        for (place, link) in links.iter().enumerate() {
+            table.rows[place] = Link { days: Period::ALWAYS, ..*link };
+        }
+        table
+    }
+
+    #[test]
+    fn the_last_day_is_not_included() {
+        is_caught(seeing(|_, link, day| link.days.first <= day && day < link.days.last));
+    }
+
+    #[test]
+    fn the_first_day_is_not_included() {
+        is_caught(seeing(|_, link, day| link.days.first < day && day <= link.days.last));
+    }
+
+    #[test]
+    fn a_link_of_another_day_is_seen_by_the_directed_walk() {
+        is_caught(seeing(|_, link, day| link.flag == ALTERNATIVE || link.days.contains(day)));
+    }
+
+    #[test]
+    fn bring_in_by_a_link_whose_days_are_over() {
+        is_caught(seeing(|call, link, day| {
+            let moved = matches!(call, Call::Command(Command::BringIn { .. } | Command::TakeOut { .. }));
+            link.days.contains(day) || moved && link.days.last < day
+        }));
+    }
+
+    #[test]
+    fn links_are_seen_before_their_first_day() {
+        is_caught(seeing(|_, link, day| day <= link.days.last));
+    }
+
+    #[test]
+    fn ffff_is_any_day() {
+        is_caught(seeing(|_, link, day| day == Day::MAX || link.days.contains(day)));
+    }
+
+    /// The new link of a call, and in which ways its answer is due.
+    fn entered(call: &Call, before: &Store, answer: Answer) -> Option<(Link, Vec<&'static str>)> {
+        match (call, answer) {
+            (Call::Command(Command::EnterLink(new)), Answer::Accepted | Answer::Refused(5..)) => {
+                Some((*new, linking::due(&Rows::from(&before.directory), new).1))
+            }
+            _ => None,
+        }
+    }
+
+    /// A link is accepted where it is refused in one of these ways alone.
+    fn accepting(ways: &'static [&'static str]) -> impl Mistake {
+        move |call: &Call, before: &Store, store: &mut Store, answer| match entered(call, before, answer) {
+            Some((new, due)) if due.len() == 1 && ways.contains(&due[0]) => {
+                let table = &mut store.directory.links;
+                table.rows[table.count] = new;
+                table.count += 1;
+                Answer::Accepted
+            }
+            _ => answer,
+        }
+    }
+
+    /// A link is refused with another number where this way applies.
+    fn refusing(way: &'static str, number: u8) -> impl Mistake {
+        move |call: &Call, before: &Store, store: &mut Store, answer| match entered(call, before, answer) {
+            Some((_, due)) if due.contains(&way) => {
+                store.clone_from(before);
+                Answer::Refused(number)
+            }
+            _ => answer,
+        }
+    }
+
+    #[test]
+    fn an_alternative_needs_a_default_at_its_ends_only() {
+        is_caught(accepting(&[
+            "an alternative, a default at its ends alone",
+            "an alternative, a gap between defaults",
+        ]));
+    }
+
+    #[test]
+    fn an_alternative_needs_a_default_on_its_first_day_only() {
+        is_caught(accepting(&["an alternative, no default on the last day alone"]));
+    }
+
+    #[test]
+    fn two_defaults_share_a_day() {
+        is_caught(accepting(&["a default beside another on the first day alone"]));
+        is_caught(accepting(&["a default beside another on the last day alone"]));
+    }
+
+    #[test]
+    fn an_issuer_and_an_investor_share_a_day() {
+        is_caught(accepting(&["an issuer link beside an investor's on the first day alone"]));
+        is_caught(accepting(&["a default beside an issuer link on the last day alone"]));
+    }
+
+    #[test]
+    fn the_same_technical_issuer_shares_a_day() {
+        is_caught(accepting(&["the same technical issuer on the first day alone"]));
+        is_caught(accepting(&["the same technical issuer on the last day alone"]));
+    }
+
+    #[test]
+    fn a_period_without_a_day_is_accepted() {
+        is_caught(accepting(&["first day after last by one", "first day after last by more"]));
+    }
+
+    #[test]
+    fn first_after_last_comes_before_10() {
+        is_caught(refusing("a wrong account, first day after last", 24));
+    }
+
+    #[test]
+    fn first_after_last_comes_behind_11() {
+        is_caught(refusing("first day after last, another rule broken", 11));
+    }
+
+    #[test]
+    fn a_period_without_a_day_shares_one() {
+        is_caught(refusing("first day after last, within a link to the same", 9));
+    }
+
+    #[test]
+    fn one_day_is_none() {
+        is_caught(refusing("a link of one day", 24));
+    }
+
+    #[test]
+    fn a_technical_issuer_is_entered_once_for_all_days() {
+        is_caught(refusing("a default to the same technical issuer on other days", 9));
+    }
+
+    #[test]
+    fn only_the_first_link_is_a_default() {
+        is_caught(refusing("a default the day after a default", 11));
+    }
+
+    #[test]
+    fn one_default_covers_an_alternative() {
+        is_caught(refusing("an alternative over several defaults", 11));
+    }
+
+    #[test]
+    fn an_issuer_is_one_for_all_days() {
+        is_caught(refusing("a default the day after an issuer link", 11));
+        is_caught(refusing("an issuer the day after a default", 11));
+    }
+
+    #[test]
+    fn soundness_goes_by_links_without_days() {
+        is_caught(|call, before, store, answer| {
+            let links = before.directory.links.entered().unwrap_or_default();
+            let mut undated = before.clone();
+            undated.directory.links = table_of(links);
+            let judged = !matches!(call, Call::CashTotal) && !matches!(answer, Answer::Refused(3..=4));
+            if judged && Model.call(&mut undated, call) == Answer::Refused(4) {
+                store.clone_from(before);
+                return Answer::Refused(4);
+            }
+            answer
         });
     }
 }

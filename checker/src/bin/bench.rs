@@ -46,8 +46,8 @@ fn desk(full: bool) {
     let commands = [
         ("enter an account", Command::EnterAccount(Account { csd: 0, kind: PARTICIPANT })),
         ("pay in", Command::PayIn { account: from, amount: Cents(1) }),
-        ("derive 16 steps", Command::Derive { delivering, receiving }),
-        ("settle 16 steps", Command::Settle { delivering, receiving }),
+        ("derive 16 steps", Command::Derive { delivering, receiving, day: 0 }),
+        ("settle 16 steps", Command::Settle { delivering, receiving, day: 0 }),
     ];
     for (name, command) in commands {
         call(&format!("{name}, {tables}"), directory, &Call::Command(command));

@@ -4,7 +4,7 @@
 use std::collections::BTreeSet;
 
 use super::implementation::{same, Answer, Call, Store};
-use super::literal::{in_order, Rows};
+use super::literal::{day_of, in_order, Rows};
 use crate::booking::{Cents, Units};
 use crate::command::Command;
 use crate::directory::*;
@@ -59,15 +59,20 @@ impl Balances {
                 }
             }
             Command::EnterLink(row) => self.rows.links.push(row),
-            Command::BringIn { account, security, quantity } => self.bring_in(account, security, quantity.0)?,
-            Command::TakeOut { account, security, quantity } => self.bring_in(account, security, -quantity.0)?,
+            Command::BringIn { account, security, quantity, day } => {
+                self.bring_in(account, security, quantity.0, day)?
+            }
+            Command::TakeOut { account, security, quantity, day } => {
+                self.bring_in(account, security, -quantity.0, day)?
+            }
             Command::PayIn { account, amount } => self.pay_in(account, amount.0),
             Command::PayOut { account, amount } => self.pay_in(account, -amount.0),
             Command::Derive { .. } | Command::DeriveSided { .. } => {}
             Command::Settle { .. } | Command::SettleSided { .. } => {
                 let (delivering, receiving) = in_order(command).ok_or("booked without two sides")?;
                 let (security, quantity) = (delivering.security, delivering.quantity.0);
-                let chain = self.rows.chain(security, delivering.account, receiving.account);
+                let rows = self.rows.on(day_of(command).ok_or("booked without a day")?);
+                let chain = rows.chain(security, delivering.account, receiving.account);
                 let (_, steps) = chain.map_err(|number| format!("booked without a chain: {number}"))?;
                 if *answer != Answer::Booked(steps.len()) {
                     return Err(format!("a chain of {} steps", steps.len()));
@@ -83,8 +88,8 @@ impl Balances {
         Ok(())
     }
 
-    fn bring_in(&mut self, account: u16, security: u8, quantity: i64) -> Result<(), String> {
-        let source = self.rows.source(security, account).ok_or("nothing to bring in from")?;
+    fn bring_in(&mut self, account: u16, security: u8, quantity: i64, day: Day) -> Result<(), String> {
+        let source = self.rows.on(day).source(security, account).ok_or("nothing to bring in from")?;
         self.positions[place(account, security)].0 += quantity;
         self.positions[place(source, security)].0 -= quantity;
         self.brought_in[usize::from(security)] += i128::from(quantity);

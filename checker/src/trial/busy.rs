@@ -6,8 +6,16 @@ use super::scenario::{halves, Scenario};
 use crate::directory::*;
 use crate::transcript::INPUT_LIMIT;
 
-const SETTLE_BYTES: usize = 41;
+const SETTLE_BYTES: usize = 43;
 const ACCOUNT_BYTES: usize = 3;
+
+/// The periods in which the links of a full market follow one another, and the days on which it settles.
+const PERIODS: [Period; 3] =
+    [Period { first: 0, last: 999 }, Period { first: 1_000, last: 1_999 }, Period { first: 2_000, last: Day::MAX }];
+const DAYS: [Day; 8] = [0, 500, 999, 1_000, 1_999, 2_000, 2_500, Day::MAX];
+
+/// The links of a full market: those of two issuers and fourteen hops in each period, and an alternative for each hop.
+const MARKET_LINKS: usize = 16 * PERIODS.len() + 14;
 
 /// Two walks of eight CSDs to an issuer each, every participant holding: chains of 1 to 16 steps.
 pub struct Market {
@@ -37,8 +45,11 @@ impl Market {
             fill_links(&mut scenario);
         }
         let holders = if full { Holders { participants: 8, duos: 2 } } else { Holders { participants: 1, duos: 1 } };
-        let [delivering, receiving] =
-            sides.each_ref().map(|side| side_of_market(&mut scenario, security, side, holders));
+        let periods = if full { &PERIODS[..] } else { &[Period::ALWAYS] };
+        let [delivering, receiving] = sides.each_ref().map(|side| {
+            enter_links(&mut scenario, security, side, periods);
+            side_of_market(&mut scenario, security, side, holders)
+        });
         let neighbour = scenario.account(0, PARTICIPANT);
         let _ = scenario.settle(delivering[0][0], neighbour, security, 1_000, 0);
         if full {
@@ -72,7 +83,7 @@ impl Market {
             let (one, other) = self.trade_in_turn(steps, turn / 2);
             let (from, to) = if turn % 2 == 0 { (one, other) } else { (other, one) };
             let (delivering, receiving) = halves(self.scenario.directory(), from, to, self.security, 1, 0);
-            let _ = self.scenario.send(form.settle(delivering, receiving));
+            let _ = self.scenario.send(form.settle(delivering, receiving, DAYS[turn / 2 % DAYS.len()]));
             if self.scenario.bytes.len() > INPUT_LIMIT {
                 self.scenario.bytes.truncate(length);
                 break;
@@ -98,21 +109,36 @@ pub fn sided() -> Vec<u8> {
 pub fn mixed() -> Vec<u8> {
     let mut random = Random::new(16);
     let mut bytes = Market::new(true).settle_to_the_limit(|| (random.between(1, 16), Form::ByPlace));
-    let settled = bytes.len() - (INPUT_LIMIT - bytes.len()) % ACCOUNT_BYTES * SETTLE_BYTES;
-    bytes.truncate(settled);
+    while !(INPUT_LIMIT - bytes.len()).is_multiple_of(ACCOUNT_BYTES) {
+        bytes.truncate(bytes.len() - SETTLE_BYTES);
+    }
     while bytes.len() + ACCOUNT_BYTES <= INPUT_LIMIT {
         bytes.extend([0x03, 0, PARTICIPANT]);
     }
     bytes
 }
 
-/// Links, participants and pair rows from the start of a side to its issuer, and holdings for all. The participants of
+/// Links from the start of a side to its issuer in each period. Where there are several, each hop has an alternative in
+/// the last one, which no chain takes.
+fn enter_links(scenario: &mut Scenario, security: u8, side: &[u8], periods: &[Period]) {
+    for &days in periods {
+        scenario.days = days;
+        scenario.issuer(security, side[7]);
+        for hop in side.windows(2) {
+            scenario.link(security, hop[0], hop[1], DEFAULT);
+        }
+    }
+    if periods.len() > 1 {
+        for &csd in &side[..7] {
+            scenario.link(security, csd, 16, ALTERNATIVE);
+        }
+    }
+    scenario.days = Period::ALWAYS;
+}
+
+/// Participants and pair rows from the start of a side to its issuer, and holdings for all. The participants of
 /// a CSD are served by its omnibus accounts in turn, and each of these by one of the next.
 fn side_of_market(scenario: &mut Scenario, security: u8, side: &[u8], holders: Holders) -> Vec<Vec<u16>> {
-    scenario.issuer(security, side[7]);
-    for hop in side.windows(2) {
-        scenario.link(security, hop[0], hop[1], DEFAULT);
-    }
     let accounts: Vec<Vec<u16>> = (0..8)
         .map(|place| {
             let accounts = (0..holders.participants).map(|number| {
@@ -139,12 +165,14 @@ fn fill_links(scenario: &mut Scenario) {
     }
     for security in 1..SECURITIES as u8 {
         scenario.security();
-        for csd in 16..24 {
-            if scenario.directory().links.count < LINKS - 16 {
+        for (csd, days) in (16..24).flat_map(|csd| PERIODS.map(|days| (csd, days))) {
+            scenario.days = days;
+            if scenario.directory().links.count < LINKS - MARKET_LINKS {
                 scenario.link(security, csd, csd + 1, DEFAULT);
             }
         }
     }
+    scenario.days = Period::ALWAYS;
 }
 
 /// Rows of the market's participant and omnibus accounts at one more CSD in T2S and then at external ones.
@@ -182,8 +210,9 @@ mod tests {
     fn trades_have_their_lengths() {
         for full in [false, true] {
             let mut market = Market::new(full);
-            for (steps, turn) in (1..=16).flat_map(|steps| [0, 1, 9, 63].map(|turn| (steps, turn))) {
+            for (steps, turn) in (1..=16).flat_map(|steps| [0, 1, 2, 3, 4, 5, 6, 9, 63].map(|turn| (steps, turn))) {
                 let (from, to) = market.trade_in_turn(steps, turn);
+                market.scenario.day = DAYS[turn % DAYS.len()];
                 let Ok(Done::Booked(chain)) = market.scenario.settle(from, to, market.security, 1, 0) else {
                     panic!("no chain of {steps} in turn {turn}");
                 };
@@ -202,6 +231,17 @@ mod tests {
     }
 
     #[test]
+    fn every_hop_has_a_link_in_each_period() {
+        let market = Market::new(true);
+        for (csd, days) in (0..16).flat_map(|csd| PERIODS.map(|days| (csd, days))) {
+            let links = market.scenario.directory().links.rows.iter();
+            let links: Vec<&Link> = links.filter(|row| row.security == market.security && row.csd == csd).collect();
+            assert!(links.iter().any(|row| row.flag == DEFAULT && row.days == days));
+            assert_eq!(links.len(), if csd % 8 == 7 { 3 } else { 4 });
+        }
+    }
+
+    #[test]
     fn participants_share_two_omnibus_accounts() {
         let market = Market::new(true);
         for hop in (0..7).chain(8..15) {
@@ -215,7 +255,7 @@ mod tests {
     #[test]
     fn sided_settlements_are_booked_in_both_orders() {
         let bytes = sided();
-        assert!(bytes.len() + 43 > INPUT_LIMIT && bytes.len() <= INPUT_LIMIT);
+        assert!(bytes.len() + 45 > INPUT_LIMIT && bytes.len() <= INPUT_LIMIT);
         assert!(!String::from_utf8(transcript(&bytes)).unwrap().contains(" no "));
         let mut reader = Reader::new(&bytes);
         let mut orders = [0; 2];

@@ -106,9 +106,11 @@ fn scatter_junk(random: &mut Random, directory: &mut Directory) {
         *row = Pair { investor, technical, investor_account, technical_account, served: served.into() };
     }
     for row in &mut links.rows[links.count..] {
-        let [csd, technical, account] = random.bits().to_be_bytes()[..3].try_into().unwrap();
+        let [csd, technical, account, days @ ..]: [u8; 7] = random.bits().to_be_bytes()[..7].try_into().unwrap();
         let (security, kind, flag) = (csd % 3, technical % 3, account % 3);
-        *row = Link { security, kind, csd: csd % 32, technical: technical % 32, flag, account: account.into() };
+        let [first, last] = [[days[0], days[1]], [days[2], days[3]]].map(Day::from_be_bytes);
+        let (csd, technical, account) = (csd % 32, technical % 32, account.into());
+        *row = Link { security, kind, csd, technical, flag, account, days: Period { first, last } };
     }
 }
 

@@ -10,9 +10,10 @@ use crate::directory::*;
 use crate::register::Register;
 
 /// How often each command is drawn.
-const CODES: [u8; 33] = [
-    0x01, 0x02, 0x02, 0x03, 0x03, 0x05, 0x05, 0x05, 0x06, 0x06, 0x07, 0x07, 0x08, 0x09, 0x0A, 0x0A, 0x0A, 0x0B, 0x0B,
-    0x0B, 0x0C, 0x0C, 0x0C, 0x0C, 0x0C, 0x0D, 0x0D, 0x0D, 0x0D, 0x0E, 0x0E, 0x0E, 0x0E,
+const CODES: [u8; 40] = [
+    0x01, 0x02, 0x02, 0x03, 0x03, 0x05, 0x05, 0x05, 0x05, 0x05, 0x05, 0x05, 0x06, 0x06, 0x06, 0x07, 0x07, 0x07, 0x08,
+    0x09, 0x0A, 0x0A, 0x0A, 0x0B, 0x0B, 0x0B, 0x0C, 0x0C, 0x0C, 0x0C, 0x0C, 0x0D, 0x0D, 0x0D, 0x0D, 0x0E, 0x0E, 0x0E,
+    0x0E, 0x0E,
 ];
 
 pub fn command(random: &mut Random, directory: &Directory) -> Command {
@@ -31,6 +32,17 @@ pub fn account(random: &mut Random, directory: &Directory) -> Account {
     Draw { random, directory }.account_row()
 }
 
+/// An instruction that reads links on a day.
+pub fn dated(random: &mut Random, directory: &Directory) -> Command {
+    let code = random.pick(&[0x06, 0x07, 0x0A, 0x0B, 0x0C, 0x0D]);
+    command_of(code, random, directory)
+}
+
+/// A link, often one whose days touch, overlap or leave out those of another.
+pub fn link(random: &mut Random, directory: &Directory) -> Command {
+    command_of(0x05, random, directory)
+}
+
 /// A pair row as the byte 04 entered it, without a served account.
 pub fn former_pair(random: &mut Random, directory: &Directory) -> Vec<u8> {
     let mut bytes = Vec::new();
@@ -47,14 +59,20 @@ fn command_of(code: u8, random: &mut Random, directory: &Directory) -> Command {
         0x02 => Command::EnterSecurity(draw.security_row()),
         0x03 => Command::EnterAccount(draw.account_row()),
         0x05 => Command::EnterLink(draw.link_row()),
-        0x06 => Command::BringIn { account: draw.participant(), security: draw.security(), quantity: draw.units() },
-        0x07 => Command::TakeOut { account: draw.participant(), security: draw.security(), quantity: draw.units() },
+        0x06 => {
+            let (account, security, day) = draw.source();
+            Command::BringIn { account, security, quantity: draw.units(), day }
+        }
+        0x07 => {
+            let (account, security, day) = draw.source();
+            Command::TakeOut { account, security, quantity: draw.units(), day }
+        }
         0x08 => Command::PayIn { account: draw.participant(), amount: draw.cents() },
         0x09 => Command::PayOut { account: draw.participant(), amount: draw.cents() },
-        0x0A => draw.halves(|delivering, receiving| Command::Settle { delivering, receiving }),
-        0x0B => draw.halves(|delivering, receiving| Command::Derive { delivering, receiving }),
-        0x0C => draw.sided_halves(|first, second| Command::SettleSided { first, second }),
-        0x0D => draw.sided_halves(|first, second| Command::DeriveSided { first, second }),
+        0x0A => draw.halves(|delivering, receiving, day| Command::Settle { delivering, receiving, day }),
+        0x0B => draw.halves(|delivering, receiving, day| Command::Derive { delivering, receiving, day }),
+        0x0C => draw.sided_halves(|first, second, day| Command::SettleSided { first, second, day }),
+        0x0D => draw.sided_halves(|first, second, day| Command::DeriveSided { first, second, day }),
         _ => Command::EnterPair(draw.pair_row()),
     };
     if random.percent(20) {
@@ -295,40 +313,154 @@ impl Draw<'_> {
         }
     }
 
+    /// A link of two CSDs, often of one that has links for the security already.
     fn link_row(&mut self) -> Link {
-        let (security, csd) = (self.security(), self.csd());
-        let external = self.is_external(csd);
-        if self.random.percent(30) {
-            let account =
-                if external { NO_ACCOUNT } else { self.account(|_, row| *row == Account { csd, kind: ISSUANCE }) };
-            return Link { security, kind: ISSUER, csd, technical: NO_CSD, flag: DEFAULT, account };
-        }
         let links = self.directory.links.entered().unwrap_or_default();
-        let linked = links.iter().any(|row| row.security == security && row.csd == csd);
-        let flag = if linked != self.random.percent(10) { ALTERNATIVE } else { DEFAULT };
-        Link { security, kind: INVESTOR, csd, technical: self.csd(), flag, account: NO_ACCOUNT }
+        let (security, csd) = if links.is_empty() || self.random.percent(40) {
+            (self.security(), self.csd())
+        } else {
+            let row = self.random.pick(links);
+            (row.security, row.csd)
+        };
+        let beside = self.links_of(security, csd);
+        let days = self.period_near(&beside);
+        if self.random.percent(35) {
+            return self.issuer_row(security, csd, days);
+        }
+        let linked = beside.iter().any(|row| row.kind == INVESTOR && row.days.shares_day(days));
+        let flag = if linked != self.random.percent(25) { ALTERNATIVE } else { DEFAULT };
+        let technical =
+            if beside.is_empty() || self.random.percent(60) { self.csd() } else { self.random.pick(&beside).technical };
+        let account = if self.random.percent(3) { self.participant() } else { NO_ACCOUNT };
+        Link { security, kind: INVESTOR, csd, technical, flag, account, days }
     }
 
-    /// Halves that go together, mostly between accounts with a chain.
-    fn halves<T>(&mut self, command: impl Fn(Half, Half) -> T) -> T {
+    /// An issuer link, seldom with what only investor links have.
+    fn issuer_row(&mut self, security: u8, csd: u8, days: Period) -> Link {
+        let none_due = self.is_external(csd) && !self.random.percent(20);
+        let account = if none_due { NO_ACCOUNT } else { self.issuance(csd) };
+        let technical = if self.random.percent(4) { self.csd() } else { NO_CSD };
+        let flag = if self.random.percent(4) { ALTERNATIVE } else { DEFAULT };
+        Link { security, kind: ISSUER, csd, technical, flag, account, days }
+    }
+
+    fn issuance(&mut self, csd: u8) -> u16 {
+        let anywhere = self.random.percent(5);
+        self.account(|_, row| row.kind == ISSUANCE && (anywhere || row.csd == csd))
+    }
+
+    fn links_of(&self, security: u8, csd: u8) -> Vec<Link> {
+        let links = self.directory.links.entered().unwrap_or_default();
+        links.iter().filter(|row| row.security == security && row.csd == csd).copied().collect()
+    }
+
+    /// A few days, or many.
+    fn length(&mut self) -> Day {
+        self.random.pick(&[0, 0, 1, 2, 3, 7, 30, 1_000])
+    }
+
+    /// Days that touch those of a link, share one of them or more, or leave some out; or any.
+    fn period_near(&mut self, links: &[Link]) -> Period {
+        if links.is_empty() || self.random.percent(10) {
+            return self.any_period();
+        }
+        let (row, other) = (self.random.pick(links).days, self.random.pick(links).days);
+        let length = self.length();
+        let (before, behind) = (row.first.saturating_sub(1), row.last.saturating_add(1));
+        let from = |first: Day| Period::new(first, first.saturating_add(length));
+        let to = |last: Day| Period::new(last.saturating_sub(length), last);
+        let gap =
+            || Period::new(row.last.min(other.last).saturating_add(1), row.first.max(other.first).saturating_sub(1));
+        match self.random.below(26) {
+            0 | 1 => row,
+            2 | 3 => from(behind),
+            4 | 5 => to(before),
+            6 | 17 => from(row.last),
+            7 | 18 => to(row.first),
+            8 => from(behind.saturating_add(1)),
+            19 | 20 => gap(),
+            9 => Period::new(row.first.saturating_add(1).min(row.last), row.last),
+            10 => Period::new(row.first, row.last.saturating_sub(1).max(row.first)),
+            11 => Period::new(before, row.last),
+            12 => Period::new(row.first, behind),
+            13 | 21 => Period::new(row.first.min(other.first), row.last.max(other.last)),
+            14 | 22..=25 => Period::new(row.last.min(other.last), row.first.max(other.first)),
+            15 => Period::new(row.first.saturating_add(1), row.first),
+            _ => Period::new(row.last, row.first),
+        }
+    }
+
+    fn any_period(&mut self) -> Period {
+        let first = self.random.pick(&[0, 1, 10, 1_000, Day::MAX - 5, Day::MAX]);
+        let length = self.length();
+        match self.random.below(6) {
+            0 => Period::new(self.random.bits() as Day, self.random.bits() as Day),
+            1 => Period::new(first.max(1), first.max(1) - 1),
+            2 => Period::new(first, first.saturating_add(length)),
+            _ => Period::ALWAYS,
+        }
+    }
+
+    /// A day on which a link begins or ends, the one before or after, one of the two ends of all days, or any.
+    fn day(&mut self) -> Day {
+        let links = self.directory.links.entered().unwrap_or_default();
+        if links.is_empty() || self.random.percent(20) {
+            let any = self.random.bits() as Day;
+            return self.random.pick(&[0, Day::MAX, any]);
+        }
+        let Period { first, last } = self.random.pick(links).days;
+        self.random.pick(&[first, first, last, last, first.saturating_sub(1), last.saturating_add(1)])
+    }
+
+    /// What is brought in or taken out, often where a link of the account's CSD begins or ends.
+    fn source(&mut self) -> (u16, u8, Day) {
+        let (account, security, day) = (self.participant(), self.security(), self.day());
+        let csd = self.accounts().get(usize::from(account)).map_or(NO_CSD, |row| row.csd);
+        let links = self.links_of(security, csd);
+        if links.is_empty() || self.random.percent(30) {
+            return (account, security, day);
+        }
+        let Period { first, last } = self.random.pick(&links).days;
+        (account, security, self.random.pick(&[first, last, first.saturating_sub(1), last.saturating_add(1)]))
+    }
+
+    /// Halves that go together, mostly between accounts with a chain on the day.
+    fn halves<T>(&mut self, command: impl Fn(Half, Half, Day) -> T) -> T {
         let register = Register::of(self.directory);
         let amount = if self.random.percent(50) { 0 } else { self.value() };
         let quantity = self.value();
         loop {
-            let (from, to, security) = (self.participant(), self.participant(), self.security());
+            let by_alternative = self.trade_by_alternative();
+            let (from, to, security, day) =
+                by_alternative.unwrap_or_else(|| (self.participant(), self.participant(), self.security(), self.day()));
             let (delivering, receiving) = halves(self.directory, from, to, security, quantity, amount);
             let ordered = Halves::by_place(&delivering, &receiving);
-            let chain = register.as_ref().is_ok_and(|register| register.derive_halves(ordered).is_ok());
-            if chain || self.random.percent(30) {
-                return command(delivering, receiving);
+            let chain = register.as_ref().is_ok_and(|register| register.derive_halves(ordered, day).is_ok());
+            if chain || by_alternative.is_some() || self.random.percent(30) {
+                return command(delivering, receiving, day);
             }
         }
     }
 
+    /// Sometimes the two participants of an alternative, on one of its days or just outside them.
+    fn trade_by_alternative(&mut self) -> Option<(u16, u16, u8, Day)> {
+        let links = self.directory.links.entered().unwrap_or_default();
+        let alternatives: Vec<Link> = links.iter().filter(|link| link.flag == ALTERNATIVE).copied().collect();
+        if alternatives.is_empty() || self.random.percent(70) {
+            return None;
+        }
+        let Link { security, csd, technical, days: Period { first, last }, .. } = self.random.pick(&alternatives);
+        let mut ends = [csd, technical].map(|csd| self.account(|_, row| *row == Account { csd, kind: PARTICIPANT }));
+        self.random.shuffle(&mut ends);
+        let day = self.random.pick(&[first, last, first.saturating_sub(1), last.saturating_add(1)]);
+        Some((ends[0], ends[1], security, day))
+    }
+
     /// The same in either order, mostly with the sides that they have.
-    fn sided_halves(&mut self, command: impl Fn(SidedHalf, SidedHalf) -> Command) -> Command {
-        let mut sided = self.halves(|delivering, receiving| {
-            [SidedHalf { side: DELIVERING, half: delivering }, SidedHalf { side: RECEIVING, half: receiving }]
+    fn sided_halves(&mut self, command: impl Fn(SidedHalf, SidedHalf, Day) -> Command) -> Command {
+        let (mut sided, day) = self.halves(|delivering, receiving, day| {
+            let delivering = SidedHalf { side: DELIVERING, half: delivering };
+            ([delivering, SidedHalf { side: RECEIVING, half: receiving }], day)
         });
         self.random.shuffle(&mut sided);
         let [mut first, mut second] = sided;
@@ -337,6 +469,6 @@ impl Draw<'_> {
             1 => self.random.pick(&NO_SIDES),
             _ => [first.side, second.side],
         };
-        command(first, second)
+        command(first, second, day)
     }
 }

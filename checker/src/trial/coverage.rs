@@ -6,8 +6,8 @@ use std::ops::RangeInclusive;
 
 use super::climbs::{all_hops, HopWay, Source, Turn, SOURCES, TURNS};
 use super::implementation::{Answer, Call};
-use super::literal::{in_order, ChainKind, Rows};
-use super::pairing;
+use super::literal::{day_of, in_order, ChainKind, Rows};
+use super::{days, linking, pairing};
 use crate::command::Command;
 use crate::directory::{Bic, Csd};
 
@@ -17,7 +17,7 @@ pub const COMMANDS: [(u8, &str, &[u8], &[u8]); 13] = [
     (0x01, "enter CSD", &[2, 5, 7, 9], &[4]),
     (0x02, "enter security", &[2, 5, 7, 8, 9], &[4]),
     (0x03, "enter account", &[2, 5, 6, 7, 10], &[4]),
-    (0x05, "enter link", &[2, 5, 6, 7, 9, 10, 11], &[4]),
+    (0x05, "enter link", &[2, 5, 6, 7, 9, 10, 24, 11], &[4]),
     (0x06, "bring in", &[2, 6, 7, 10, 19, 22], &[3, 4]),
     (0x07, "take out", &[2, 6, 7, 10, 19, 20, 22], &[3, 4]),
     (0x08, "pay in", &[2, 6, 7, 10, 22], &[3, 4]),
@@ -64,11 +64,21 @@ pub const FLAWS: [(&str, &[u8]); 5] = [
     ("securities", &[5, 7, 8, 9]),
     ("accounts", &[5, 6, 7, 10]),
     ("pairs", &[5, 6, 9, 10, 11]),
-    ("links", &[5, 6, 7, 9, 10, 11]),
+    ("links", &[5, 6, 7, 9, 10, 24, 11]),
 ];
 
 /// The refusals of the calls that no stream can command.
 pub const TOTALS: [(&str, &[u8]); 2] = [("total", &[3, 4, 6, 22]), ("cash total", &[3, 22])];
+
+/// The commands with a day, and the refusals that a link of another day can give them.
+pub const DATED: [(u8, &[u8]); 6] = [
+    (0x06, &[19]),
+    (0x07, &[19]),
+    (0x0A, &[14, 15, 16, 17]),
+    (0x0B, &[14, 15, 16, 17]),
+    (0x0C, &[14, 15, 16, 17]),
+    (0x0D, &[14, 15, 16, 17]),
+];
 
 /// A byte that is no command, and the one that was.
 pub const UNKNOWN: &str = "unknown byte";
@@ -95,6 +105,8 @@ pub struct Coverage {
     flaws: BTreeMap<(&'static str, u8), u64>,
     chains: BTreeMap<(&'static str, ChainKind, usize), u64>,
     pairs: BTreeMap<(&'static str, u8), u64>,
+    links: BTreeMap<(&'static str, u8), u64>,
+    days: BTreeMap<(&'static str, &'static str, u8), u64>,
     hops: BTreeMap<(HopWay, u8), u64>,
     turns: BTreeMap<Turn, u64>,
     sources: BTreeMap<(&'static str, (Source, u8)), u64>,
@@ -117,8 +129,8 @@ pub fn call_name(call: &Call) -> &'static str {
 /// How the sides of a command stand, if it has any.
 fn sides_name(command: &Command) -> Option<&'static str> {
     let (place, sides) = match command {
-        Command::SettleSided { first, second } => (0, [first.side, second.side]),
-        Command::DeriveSided { first, second } => (4, [first.side, second.side]),
+        Command::SettleSided { first, second, .. } => (0, [first.side, second.side]),
+        Command::DeriveSided { first, second, .. } => (4, [first.side, second.side]),
         _ => return None,
     };
     let way = match sides {
@@ -174,12 +186,33 @@ impl Coverage {
                     *self.pairs.entry((name, number)).or_default() += 1;
                 }
             }
-            (Command::BringIn { account, security, .. } | Command::TakeOut { account, security, .. }, 0 | 19) => {
-                if let Some(source) = rows.source_way(*security, *account) {
-                    *self.sources.entry((call_name(call), (source, number))).or_default() += 1;
+            (Command::EnterLink(new), _) => {
+                let (_, ways) = linking::due(rows, new);
+                for name in ways.iter().filter(|_| number == 0 || ways.len() == 1) {
+                    *self.links.entry((name, number)).or_default() += 1;
                 }
             }
-            (_, 0 | 18) => self.climbs(command, number, rows),
+            _ => self.instruction(command, number, rows),
+        }
+    }
+
+    /// Counts how a call stands to its day, and what it found on it.
+    fn instruction(&mut self, command: &Command, number: u8, rows: &Rows) {
+        let (Some(day), name) = (day_of(command), command_name(command.code())) else { return };
+        if matches!(number, 0 | 14..=17 | 19) {
+            let ways = days::ways(rows, command, number == 0);
+            let alternative = days::alternative_way(rows, command).filter(|_| number == 0);
+            for way in ways.into_iter().chain(alternative) {
+                *self.days.entry((name, way, number)).or_default() += 1;
+            }
+        }
+        match (command, number) {
+            (Command::BringIn { account, security, .. } | Command::TakeOut { account, security, .. }, 0 | 19) => {
+                if let Some(source) = rows.on(day).source_way(*security, *account) {
+                    *self.sources.entry((name, (source, number))).or_default() += 1;
+                }
+            }
+            (_, 0 | 18) => self.climbs(command, number, &rows.on(day)),
             _ => {}
         }
     }
@@ -248,13 +281,15 @@ impl Coverage {
         .concat()
     }
 
-    /// Pair rows: each way in which one can be answered, and each way in which one is found.
+    /// Pair rows and links: each way in which one can be answered, and each way in which one is found.
     fn rows_missing(&self) -> Vec<String> {
         let hops = all_hops().into_iter().map(|hop| (hop, if hop.3.is_missing() { 18 } else { 0 }));
         let moves = [0x06, 0x07].map(command_name);
         let sources = moves.iter().flat_map(|&name| SOURCES.map(|source| (name, source)));
         [
             compare(&self.pairs, pairing::all_ways()),
+            compare(&self.links, linking::all_ways()),
+            compare(&self.days, all_days()),
             compare(&self.hops, hops.collect()),
             compare(&self.turns, TURNS.to_vec()),
             compare(&self.sources, sources.collect()),
@@ -281,6 +316,22 @@ fn number(answer: &Answer) -> u8 {
     }
 }
 
+/// Every way in which a command can stand to its day.
+pub fn all_days() -> Vec<(&'static str, &'static str, u8)> {
+    let mut all = Vec::new();
+    for (code, refusals) in DATED {
+        let name = command_name(code);
+        all.extend(days::ACCEPTED.map(|way| (name, way, 0)));
+        if !refusals.contains(&19) {
+            all.extend(days::ALTERNATIVES.map(|way| (name, way, 0)));
+        }
+        for &number in refusals {
+            all.extend(days::REFUSED.map(|way| (name, way, number)));
+        }
+    }
+    all
+}
+
 /// What is missing of the expected, and what is seen besides.
 fn compare<Key: Ord + Debug>(seen: &BTreeMap<Key, u64>, expected: Vec<Key>) -> Vec<String> {
     let missing = expected.iter().filter(|key| !seen.contains_key(*key));
@@ -296,10 +347,13 @@ fn numbered(name: &'static str, numbers: &[u8]) -> Vec<(&'static str, u8)> {
 
 impl Display for Coverage {
     fn fmt(&self, formatter: &mut Formatter) -> fmt::Result {
-        let named = self.answers.iter().chain(&self.sides).chain(&self.bics).chain(&self.isins).chain(&self.pairs);
-        for ((name, number), times) in named {
-            let answer = if *number == 0 { "accepted".into() } else { format!("no {number}") };
-            writeln!(formatter, "{name:48} {answer:9} {times:9}")?;
+        let answered = |number: u8| if number == 0 { "accepted".into() } else { format!("no {number}") };
+        let named = self.answers.iter().chain(&self.sides).chain(&self.bics).chain(&self.isins);
+        for ((name, number), times) in named.chain(&self.pairs).chain(&self.links) {
+            writeln!(formatter, "{name:60} {:9} {times:9}", answered(*number))?;
+        }
+        for ((name, way, number), times) in &self.days {
+            writeln!(formatter, "{:60} {:9} {times:9}", format!("{name}, {way}"), answered(*number))?;
         }
         for ((hop, number), times) in &self.hops {
             writeln!(formatter, "{hop:?} {number}: {times}")?;

@@ -3,15 +3,19 @@
 
 use super::balances::Balances;
 use super::calls;
+use super::commands;
 use super::coverage::{command_name, Coverage};
 use super::forms::{others, turned_stream};
 use super::implementation::{copy, same, Answer, Call, Implementation, Model, Program, Store};
-use super::literal::{in_order, Rows};
+use super::linking;
+use super::literal::{day_of, in_order, Rows};
 use super::pairing;
 use super::random::Random;
 use super::streams;
+use crate::booking::{Cents, Units};
 use crate::chain::{Step, STEPS};
 use crate::command::{Command, Reader};
+use crate::directory::*;
 use crate::refusal::Refusal;
 use crate::register::Register;
 use crate::text::Text;
@@ -78,6 +82,7 @@ pub fn shortened(bytes: &[u8], mut fails: impl FnMut(&[u8]) -> bool) -> Vec<u8> 
 pub fn calls(seed: u64, subject: &mut impl Implementation, coverage: &mut Coverage) -> Result<(), String> {
     let mut random = Random::new(seed);
     let mut store = calls::store(&mut random);
+    same_soundness(&store.directory)?;
     let (mut other, mut before) = (store.clone(), store.clone());
     let mut unsound = 0;
     for number in 1..=24 {
@@ -112,6 +117,89 @@ pub fn calls(seed: u64, subject: &mut impl Implementation, coverage: &mut Covera
         }
     }
     Ok(())
+}
+
+/// "Only links valid on it are seen": calls over a random store, and over the same with the links of all other days struck
+/// out and those of the day valid on every day. Without days these keep the rules, and answer and leave the same.
+pub fn days(seed: u64, subject: &mut impl Implementation, coverage: &mut Coverage) -> Result<(), String> {
+    let mut random = Random::new(seed);
+    let scenario = streams::scenario(&mut random);
+    let store = Store {
+        directory: scenario.directory().clone(),
+        positions: vec![Units(1_000_000); ACCOUNTS * SECURITIES],
+        cash: vec![Cents(1_000_000); ACCOUNTS],
+        steps: vec![Step::default(); STEPS],
+    };
+    let rows = Rows::from(&store.directory);
+    for number in 1..=24 {
+        let command = commands::dated(&mut random, &store.directory);
+        let call = Call::Command(command);
+        let place = |text: String| format!("call {number}, {call:?}: {text}");
+        let day = day_of(&command).ok_or_else(|| place("no day".into()))?;
+        let (mut left, mut struck_left) = (store.clone(), store.clone());
+        struck_left.directory = undated(&rows.on(day)).map_err(place)?;
+        let answer = subject.call(&mut left, &call);
+        let struck_answer = subject.call(&mut struck_left, &call);
+        if answer != struck_answer {
+            return Err(place(format!("{answer:?}, but {struck_answer:?} without the links of other days")));
+        }
+        struck_left.directory.clone_from(&left.directory);
+        if let Some(part) = difference(&left, &struck_left) {
+            return Err(place(format!("{answer:?}, but another {part} without the links of other days")));
+        }
+        coverage.answer(command_name(command.code()), &answer);
+    }
+    Ok(())
+}
+
+/// The record of rows whose links are valid on every day, each of which must be due an acceptance after those before it.
+fn undated(rows: &Rows) -> Result<Directory, String> {
+    let mut entered = Rows { links: Vec::new(), ..rows.clone() };
+    for link in &rows.links {
+        let link = Link { days: Period::ALWAYS, ..*link };
+        if let (number @ 1.., _) = linking::due(&entered, &link) {
+            return Err(format!("{number} is due to {link:?} without the links of other days"));
+        }
+        entered.links.push(link);
+    }
+    Ok(entered.record())
+}
+
+/// Pair rows and links are replayed as the literal readings judge them, one after the other.
+fn same_soundness(directory: &Directory) -> Result<(), String> {
+    let flaw = Register::replay(directory).err().map(|(table, refusal)| (table, refusal.number()));
+    if flaw.is_some_and(|(table, _)| !matches!(table, "pairs" | "links")) {
+        return Ok(());
+    }
+    let due = literal_flaw(directory);
+    if flaw != due {
+        return Err(format!("unsound by {flaw:?}, where {due:?} is due"));
+    }
+    Ok(())
+}
+
+fn literal_flaw(directory: &Directory) -> Option<(&'static str, u8)> {
+    let rows = Rows::from(directory);
+    let mut entered = Rows { pairs: Vec::new(), links: Vec::new(), ..rows.clone() };
+    if directory.pairs.count > PAIRS {
+        return Some(("pairs", 5));
+    }
+    for row in rows.pairs {
+        if let (number @ 1.., _) = pairing::due(&entered, &row) {
+            return Some(("pairs", number));
+        }
+        entered.pairs.push(row);
+    }
+    if directory.links.count > LINKS {
+        return Some(("links", 5));
+    }
+    for row in rows.links {
+        if let (number @ 1.., _) = linking::due(&entered, &row) {
+            return Some(("links", number));
+        }
+        entered.links.push(row);
+    }
+    None
 }
 
 /// Runs a stream's commands as calls, each handed what the last one left, and prints as the program does.
@@ -198,13 +286,14 @@ fn answer_in_every_form(subject: &mut impl Implementation, store: &mut Store, ca
     Ok(answer)
 }
 
-/// A pair row is answered as the literal reading of it has it.
+/// A pair row or a link is answered as the literal reading of it has it.
 fn same_row(rows: &Rows, call: &Call, answer: &Answer) -> Result<(), String> {
-    let Call::Command(Command::EnterPair(new)) = call else { return Ok(()) };
-    let due = match pairing::due(rows, new) {
-        (0, _) => Answer::Accepted,
-        (number, _) => Answer::Refused(number),
+    let (number, _) = match call {
+        Call::Command(Command::EnterPair(new)) => pairing::due(rows, new),
+        Call::Command(Command::EnterLink(new)) => linking::due(rows, new),
+        _ => return Ok(()),
     };
+    let due = if number == 0 { Answer::Accepted } else { Answer::Refused(number) };
     if *answer == due || *answer == Answer::Refused(Refusal::NotSound.number()) {
         return Ok(());
     }
@@ -220,7 +309,7 @@ fn same_chain(
     coverage: &mut Coverage,
 ) -> Result<(), String> {
     let Call::Command(command) = call else { return Ok(()) };
-    let Some((delivering, receiving)) = in_order(command) else {
+    let (Some((delivering, receiving)), Some(day)) = (in_order(command), day_of(command)) else {
         return match answer {
             Answer::Booked(_) | Answer::Chain(_) | Answer::Refused(12..=18) => {
                 Err(format!("{answer:?} without two sides"))
@@ -228,18 +317,18 @@ fn same_chain(
             _ => Ok(()),
         };
     };
-    let chain = |rows: &Rows| rows.chain(delivering.security, delivering.account, receiving.account);
+    let chain = || rows.on(day).chain(delivering.security, delivering.account, receiving.account);
     match answer {
         Answer::Booked(length) | Answer::Chain(length) => {
-            let (kind, expected) = chain(rows).map_err(|number| format!("a chain, where {number} is due"))?;
+            let (kind, expected) = chain().map_err(|number| format!("a chain, where {number} is due"))?;
             if steps.get(..*length) != Some(&expected[..]) {
                 return Err(format!("steps {:?}, not {expected:?}", steps.get(..*length)));
             }
             coverage.chain(command, kind, *length);
             Ok(())
         }
-        Answer::Refused(number @ 14..=18) if chain(rows).err() != Some(*number) => {
-            Err(format!("refused {number}, where {:?} is due", chain(rows)))
+        Answer::Refused(number @ 14..=18) if chain().err() != Some(*number) => {
+            Err(format!("refused {number}, where {:?} is due", chain()))
         }
         _ => Ok(()),
     }

@@ -3,6 +3,7 @@
 use super::literal::in_order;
 use crate::booking::{Half, SidedHalf, DELIVERING, RECEIVING};
 use crate::command::{Command, Reader};
+use crate::directory::Day;
 
 #[derive(Clone, Copy, PartialEq, Eq, Debug)]
 pub enum Form {
@@ -19,17 +20,17 @@ pub const SAME_SIDES: [[u8; 2]; 2] = [[0, 0], [1, 1]];
 pub const NO_SIDES: [[u8; 2]; 8] = [[2, 2], [0, 2], [2, 0], [1, 2], [2, 1], [0, 0xFF], [0xFF, 1], [0xFF, 0xFF]];
 
 impl Form {
-    pub fn settle(self, delivering: Half, receiving: Half) -> Command {
+    pub fn settle(self, delivering: Half, receiving: Half, day: Day) -> Command {
         match self.sided(delivering, receiving) {
-            None => Command::Settle { delivering, receiving },
-            Some((first, second)) => Command::SettleSided { first, second },
+            None => Command::Settle { delivering, receiving, day },
+            Some((first, second)) => Command::SettleSided { first, second, day },
         }
     }
 
-    pub fn derive(self, delivering: Half, receiving: Half) -> Command {
+    pub fn derive(self, delivering: Half, receiving: Half, day: Day) -> Command {
         match self.sided(delivering, receiving) {
-            None => Command::Derive { delivering, receiving },
-            Some((first, second)) => Command::DeriveSided { first, second },
+            None => Command::Derive { delivering, receiving, day },
+            Some((first, second)) => Command::DeriveSided { first, second, day },
         }
     }
 
@@ -47,8 +48,8 @@ impl Form {
 /// The command with its halves the other way round, if it has sides.
 fn turned(command: &Command) -> Option<Command> {
     match *command {
-        Command::SettleSided { first, second } => Some(Command::SettleSided { first: second, second: first }),
-        Command::DeriveSided { first, second } => Some(Command::DeriveSided { first: second, second: first }),
+        Command::SettleSided { first, second, day } => Some(Command::SettleSided { first: second, second: first, day }),
+        Command::DeriveSided { first, second, day } => Some(Command::DeriveSided { first: second, second: first, day }),
         _ => None,
     }
 }
@@ -56,9 +57,9 @@ fn turned(command: &Command) -> Option<Command> {
 /// A sided command by place, if its sides are one of each.
 fn placed(command: &Command) -> Option<Command> {
     let (delivering, receiving) = in_order(command)?;
-    match command {
-        Command::SettleSided { .. } => Some(Command::Settle { delivering, receiving }),
-        Command::DeriveSided { .. } => Some(Command::Derive { delivering, receiving }),
+    match *command {
+        Command::SettleSided { day, .. } => Some(Command::Settle { delivering, receiving, day }),
+        Command::DeriveSided { day, .. } => Some(Command::Derive { delivering, receiving, day }),
         _ => None,
     }
 }

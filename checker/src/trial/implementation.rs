@@ -99,27 +99,27 @@ fn answer(store: &mut Store, call: &Call) -> Result<Answer, Refusal> {
         Command::EnterAccount(row) => desk::enter_account(directory, row)?,
         Command::EnterPair(row) => desk::enter_pair(directory, row)?,
         Command::EnterLink(row) => desk::enter_link(directory, row)?,
-        Command::BringIn { account, security, quantity } => {
-            desk::move_securities(directory, positions, Direction::In, account, security, quantity)?
+        Command::BringIn { account, security, quantity, day } => {
+            desk::move_securities(directory, positions, Direction::In, account, security, quantity, day)?
         }
-        Command::TakeOut { account, security, quantity } => {
-            desk::move_securities(directory, positions, Direction::Out, account, security, quantity)?
+        Command::TakeOut { account, security, quantity, day } => {
+            desk::move_securities(directory, positions, Direction::Out, account, security, quantity, day)?
         }
         Command::PayIn { account, amount } => desk::move_cash(directory, cash, Direction::In, account, amount)?,
         Command::PayOut { account, amount } => desk::move_cash(directory, cash, Direction::Out, account, amount)?,
-        Command::Settle { delivering, receiving } => {
+        Command::Settle { delivering, receiving, day } => {
             let halves = Halves::by_place(&delivering, &receiving);
-            return desk::settle(directory, positions, cash, steps, halves).map(Answer::Booked);
+            return desk::settle(directory, positions, cash, steps, halves, day).map(Answer::Booked);
         }
-        Command::Derive { delivering, receiving } => {
-            return desk::derive(directory, steps, Halves::by_place(&delivering, &receiving)).map(Answer::Chain)
+        Command::Derive { delivering, receiving, day } => {
+            return desk::derive(directory, steps, Halves::by_place(&delivering, &receiving), day).map(Answer::Chain)
         }
-        Command::SettleSided { first, second } => {
+        Command::SettleSided { first, second, day } => {
             let halves = Halves::by_side(&first, &second);
-            return desk::settle(directory, positions, cash, steps, halves).map(Answer::Booked);
+            return desk::settle(directory, positions, cash, steps, halves, day).map(Answer::Booked);
         }
-        Command::DeriveSided { first, second } => {
-            return desk::derive(directory, steps, Halves::by_side(&first, &second)).map(Answer::Chain)
+        Command::DeriveSided { first, second, day } => {
+            return desk::derive(directory, steps, Halves::by_side(&first, &second), day).map(Answer::Chain)
         }
     }
     Ok(Answer::Accepted)

@@ -28,6 +28,14 @@ impl Rows {
         self.links.iter().for_each(|&row| record.links.push(row));
         record
     }
+
+    /// "Only links valid on it are seen": the same with the links of all other days struck out. What follows reads links
+    /// as if they had no days.
+    pub fn on(&self, day: Day) -> Rows {
+        let mut rows = self.clone();
+        rows.links.retain(|link| is_valid(link, day));
+        rows
+    }
 }
 
 impl From<&Directory> for Rows {
@@ -46,13 +54,28 @@ impl From<&Directory> for Rows {
 /// The delivering and the receiving half of a command: by place, or the one that says 0 and the one that says 1.
 pub fn in_order(command: &Command) -> Option<(Half, Half)> {
     match *command {
-        Command::Settle { delivering, receiving } | Command::Derive { delivering, receiving } => {
+        Command::Settle { delivering, receiving, .. } | Command::Derive { delivering, receiving, .. } => {
             Some((delivering, receiving))
         }
-        Command::SettleSided { first, second } | Command::DeriveSided { first, second } => {
+        Command::SettleSided { first, second, .. } | Command::DeriveSided { first, second, .. } => {
             let says = |side: u8| [first, second].into_iter().find(|sided| sided.side == side).map(|sided| sided.half);
             says(0).zip(says(1))
         }
+        _ => None,
+    }
+}
+
+/// "A first and last day [...], both included."
+pub fn is_valid(link: &Link, day: Day) -> bool {
+    (link.days.first..=link.days.last).contains(&day)
+}
+
+/// The day of a command, if it has one.
+pub fn day_of(command: &Command) -> Option<Day> {
+    match *command {
+        Command::BringIn { day, .. } | Command::TakeOut { day, .. } => Some(day),
+        Command::Settle { day, .. } | Command::Derive { day, .. } => Some(day),
+        Command::SettleSided { day, .. } | Command::DeriveSided { day, .. } => Some(day),
         _ => None,
     }
 }

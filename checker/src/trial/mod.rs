@@ -3,13 +3,17 @@
 
 pub mod balances;
 pub mod busy;
+pub mod calendar;
 pub mod calls;
 pub mod climbs;
 pub mod commands;
 pub mod coverage;
+pub mod dated;
+pub mod days;
 pub mod differential;
 pub mod forms;
 pub mod implementation;
+pub mod linking;
 pub mod literal;
 pub mod pairing;
 pub mod random;

@@ -54,7 +54,8 @@ impl Refused {
 
     fn links(&mut self, rows: &[(u8, u8, u8, u8, u8, u16)]) {
         for &(security, kind, csd, technical, flag, account) in rows {
-            self.send(Command::EnterLink(Link { security, kind, csd, technical, flag, account }));
+            let days = self.scenario.days;
+            self.send(Command::EnterLink(Link { security, kind, csd, technical, flag, account, days }));
         }
     }
 
@@ -83,6 +84,7 @@ pub fn entries() -> Vec<u8> {
     }
     pairs(&mut refused);
     links(&mut refused);
+    links_without_a_day(&mut refused);
     full_tables(&mut refused);
     refused.bytes(&[0x01, 0x02, 0x03, 0x05, 0x0E])
 }
@@ -153,6 +155,24 @@ fn links(refused: &mut Refused) {
     ]);
 }
 
+/// The first day after the last: 24, unless one of 6, 7 and 10 applies; 9 does not, and 11 comes behind it.
+fn links_without_a_day(refused: &mut Refused) {
+    for (first, last) in [(1, 0), (Day::MAX, 0), (Day::MAX, Day::MAX - 1)] {
+        refused.scenario.days = Period { first, last };
+        refused.links(&[
+            (9, INVESTOR, A, B, DEFAULT, NO_ACCOUNT),
+            (0, INVESTOR, A, B, 2, NO_ACCOUNT),
+            (0, ISSUER, A, NO_CSD, DEFAULT, own(A, PARTICIPANT)),
+            (0, INVESTOR, A, B, DEFAULT, NO_ACCOUNT),
+            (0, INVESTOR, A, B, ALTERNATIVE, NO_ACCOUNT),
+            (0, INVESTOR, A, A, DEFAULT, NO_ACCOUNT),
+            (0, INVESTOR, A, X, ALTERNATIVE, NO_ACCOUNT),
+            (0, ISSUER, B, NO_CSD, DEFAULT, own(B, ISSUANCE)),
+        ]);
+    }
+    refused.scenario.days = Period::ALWAYS;
+}
+
 /// Fills every table and tries one row more, which is 5 whatever else is wrong with it.
 fn full_tables(refused: &mut Refused) {
     let scenario = &mut refused.scenario;
@@ -204,8 +224,8 @@ pub fn instructions() -> Vec<u8> {
         (participant, 0, 1),
         (participant, unlinked, 1),
     ] {
-        refused.send(Command::BringIn { account, security, quantity: Units(quantity) });
-        refused.send(Command::TakeOut { account, security, quantity: Units(quantity) });
+        refused.send(Command::BringIn { account, security, quantity: Units(quantity), day: 0 });
+        refused.send(Command::TakeOut { account, security, quantity: Units(quantity), day: 0 });
     }
     inter_csd_to_the_bound(&mut refused);
     for (account, amount) in
@@ -233,13 +253,13 @@ fn inter_csd_to_the_bound(refused: &mut Refused) {
         scenario.link(0, A, issuer, ALTERNATIVE);
         scenario.serve(participant, issuer, 0);
     }
-    refused.send(Command::TakeOut { account: participant, security: 0, quantity: Units(1) });
+    refused.send(Command::TakeOut { account: participant, security: 0, quantity: Units(1), day: 0 });
     for issuer in [B, other] {
         let account = refused.scenario.participant(issuer);
-        refused.send(Command::BringIn { account, security: 0, quantity: Units(BOUND) });
-        refused.send(Command::BringIn { account, security: 0, quantity: Units(1) });
+        refused.send(Command::BringIn { account, security: 0, quantity: Units(BOUND), day: 0 });
+        refused.send(Command::BringIn { account, security: 0, quantity: Units(1), day: 0 });
         refused.scenario.settle(account, participant, 0, BOUND, 0).ok();
-        refused.send(Command::TakeOut { account: participant, security: 0, quantity: Units(BOUND) });
+        refused.send(Command::TakeOut { account: participant, security: 0, quantity: Units(BOUND), day: 0 });
     }
 }
 
@@ -255,8 +275,8 @@ pub fn sided_settlements() -> Vec<u8> {
     for (one, other) in tried {
         for [side, other_side] in [&SAME_SIDES[..], &NO_SIDES].concat() {
             let (first, second) = (SidedHalf { side, half: one }, SidedHalf { side: other_side, half: other });
-            refused.send(Command::SettleSided { first, second });
-            refused.send(Command::DeriveSided { first, second });
+            refused.send(Command::SettleSided { first, second, day: 0 });
+            refused.send(Command::DeriveSided { first, second, day: 0 });
         }
     }
     refused.bytes(&[0x0C, 0x0D])
@@ -288,8 +308,8 @@ fn settlements_in(forms: &[Form]) -> (Refused, Vec<(Half, Half)>) {
     tried.extend(chains.map(|(from, to)| halves(directory, from, to, 0, 1, 0)));
     for &(delivering, receiving) in &tried {
         for form in forms {
-            refused.send(form.settle(delivering, receiving));
-            refused.send(form.derive(delivering, receiving));
+            refused.send(form.settle(delivering, receiving, 0));
+            refused.send(form.derive(delivering, receiving, 0));
         }
     }
     bookings(&mut refused, forms, a, b, i);
@@ -336,6 +356,6 @@ fn bookings(refused: &mut Refused, forms: &[Form], a: u16, b: u16, other: u16) {
         [(a, b, 1, 0), (second, b, 1, 0), (b, second, 1, 1), (b, a, 1, 1), (other, b, 1, 0), (other, b, BOUND, 0)]
     {
         let (delivering, receiving) = halves(refused.scenario.directory(), from, to, 0, quantity, amount);
-        forms.iter().for_each(|form| refused.send(form.settle(delivering, receiving)));
+        forms.iter().for_each(|form| refused.send(form.settle(delivering, receiving, 0)));
     }
 }

@@ -8,10 +8,20 @@ use crate::isin;
 use crate::refusal::Refusal;
 use crate::transcript::{Done, Session};
 
-#[derive(Default)]
 pub struct Scenario {
     pub bytes: Vec<u8>,
     pub session: Session,
+    /// The days of the links that are entered next.
+    pub days: Period,
+    /// The day of the instructions that come next.
+    pub day: Day,
+}
+
+/// Nothing yet. Links have all days, and it is day 0.
+impl Default for Scenario {
+    fn default() -> Self {
+        Scenario { bytes: Vec::new(), session: Session::default(), days: Period::ALWAYS, day: 0 }
+    }
 }
 
 impl Scenario {
@@ -133,25 +143,25 @@ impl Scenario {
         }
     }
 
-    /// Enters an issuer link, with an issuance account of its own where the CSD is in T2S.
-    pub fn issuer(&mut self, security: u8, csd: u8) {
+    /// Enters an issuer link, with an issuance account of its own where the CSD is in T2S, and tells whether it is accepted.
+    pub fn issuer(&mut self, security: u8, csd: u8) -> bool {
         let account = if self.is_external(csd) { NO_ACCOUNT } else { self.own_account(csd, ISSUANCE) };
-        let link = Link { security, kind: ISSUER, csd, technical: NO_CSD, flag: DEFAULT, account };
-        let _ = self.send(Command::EnterLink(link));
+        let link = Link { security, kind: ISSUER, csd, technical: NO_CSD, flag: DEFAULT, account, days: self.days };
+        self.send(Command::EnterLink(link)).is_ok()
     }
 
-    /// Enters an investor link.
-    pub fn link(&mut self, security: u8, csd: u8, technical: u8, flag: u8) {
-        let link = Link { security, kind: INVESTOR, csd, technical, flag, account: NO_ACCOUNT };
-        let _ = self.send(Command::EnterLink(link));
+    /// Enters an investor link, and tells whether it is accepted.
+    pub fn link(&mut self, security: u8, csd: u8, technical: u8, flag: u8) -> bool {
+        let link = Link { security, kind: INVESTOR, csd, technical, flag, account: NO_ACCOUNT, days: self.days };
+        self.send(Command::EnterLink(link)).is_ok()
     }
 
     pub fn bring_in(&mut self, account: u16, security: u8, quantity: i64) -> Result<Done, Refusal> {
-        self.send(Command::BringIn { account, security, quantity: Units(quantity) })
+        self.send(Command::BringIn { account, security, quantity: Units(quantity), day: self.day })
     }
 
     pub fn take_out(&mut self, account: u16, security: u8, quantity: i64) -> Result<Done, Refusal> {
-        self.send(Command::TakeOut { account, security, quantity: Units(quantity) })
+        self.send(Command::TakeOut { account, security, quantity: Units(quantity), day: self.day })
     }
 
     pub fn pay_in(&mut self, account: u16, amount: i64) -> Result<Done, Refusal> {
@@ -164,12 +174,12 @@ impl Scenario {
 
     pub fn settle(&mut self, from: u16, to: u16, security: u8, quantity: i64, amount: i64) -> Result<Done, Refusal> {
         let (delivering, receiving) = halves(self.directory(), from, to, security, quantity, amount);
-        self.send(Command::Settle { delivering, receiving })
+        self.send(Command::Settle { delivering, receiving, day: self.day })
     }
 
     pub fn derive(&mut self, from: u16, to: u16, security: u8, quantity: i64, amount: i64) -> Result<Done, Refusal> {
         let (delivering, receiving) = halves(self.directory(), from, to, security, quantity, amount);
-        self.send(Command::Derive { delivering, receiving })
+        self.send(Command::Derive { delivering, receiving, day: self.day })
     }
 }
 

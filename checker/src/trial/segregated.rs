@@ -15,8 +15,9 @@ fn trade(scenario: &mut Scenario, security: u8, accounts: &[u16]) {
     for &from in accounts {
         for &to in accounts {
             let (delivering, receiving) = halves(scenario.directory(), from, to, security, 1, 0);
-            scenario.send(Form::ByPlace.derive(delivering, receiving)).ok();
-            scenario.send(Form::ReceivingFirst.settle(delivering, receiving)).ok();
+            let day = scenario.day;
+            scenario.send(Form::ByPlace.derive(delivering, receiving, day)).ok();
+            scenario.send(Form::ReceivingFirst.settle(delivering, receiving, day)).ok();
         }
     }
 }

@@ -1,8 +1,9 @@
-//! Random streams aimed at depth: long walks, cycles, two issuers, external ends, alternatives, full
-//! tables, numbers at the bound, and damaged bytes. A seed gives the same stream everywhere.
+//! Random streams aimed at depth: long walks, cycles, two issuers, external ends, alternatives, links that follow one
+//! another, full tables, numbers at the bound, and damaged bytes. A seed gives the same stream everywhere.
 
 use std::collections::BTreeSet;
 
+use super::calendar::Calendar;
 use super::commands;
 use super::coverage::LENGTHS;
 use super::forms::FORMS;
@@ -16,7 +17,7 @@ use crate::transcript::INPUT_LIMIT;
 /// The stream of a seed, as bytes.
 pub fn stream(seed: u64) -> Vec<u8> {
     let mut random = Random::new(seed);
-    let Scenario { mut bytes, session } = scenario(&mut random);
+    let Scenario { mut bytes, session, .. } = scenario(&mut random);
     match random.below(20) {
         0 | 1 => damage(&mut random, &mut bytes),
         2 => {
@@ -36,9 +37,11 @@ pub fn stream(seed: u64) -> Vec<u8> {
 
 /// An undamaged stream, with the store that it leaves.
 pub fn scenario(random: &mut Random) -> Scenario {
-    let shape = random.below(60);
+    let shape = random.below(64);
     let noise = random.pick(&[0, 0, 2, 10]);
-    let mut writer = Writer { random, scenario: Scenario::default(), noise };
+    let calendar = Calendar::any(random);
+    let scenario = Scenario { day: calendar.today, ..Scenario::default() };
+    let mut writer = Writer { random, scenario, calendar, noise };
     match shape {
         0..=12 => {
             let plan = Plan::any(writer.random);
@@ -54,6 +57,7 @@ pub fn scenario(random: &mut Random) -> Scenario {
         }
         41 => writer.full_tables(),
         42..=50 => writer.around_the_bound(),
+        51..=54 => writer.links_in_time(),
         _ => writer.commands_at_random(),
     }
     writer.scenario
@@ -168,6 +172,7 @@ impl Plan {
 struct Writer<'a> {
     random: &'a mut Random,
     scenario: Scenario,
+    calendar: Calendar,
     noise: usize,
 }
 
@@ -216,25 +221,28 @@ impl Writer<'_> {
         match self.random.below(4) {
             0 => self.scenario.issuer(security, external),
             1 => self.scenario.link(security, external, technical, DEFAULT),
-            _ => {}
-        }
+            _ => false,
+        };
         external
     }
 
     /// Enters links, then the pair rows of participants and of all omnibus accounts that these reach. In some streams a
     /// few rows are left out, and CSDs have several participants and several accounts at a technical issuer.
     fn enter(&mut self, security: u8, issuers: &[u8], defaults: &[(u8, u8)], alternatives: &[(u8, u8)]) {
-        for &issuer in issuers {
+        let mut hops = alternatives.to_vec();
+        let issuers = issuers.iter().map(|&csd| (csd, None));
+        for (csd, technical) in issuers.chain(defaults.iter().map(|&(csd, technical)| (csd, Some(technical)))) {
             self.disturb();
-            self.scenario.issuer(security, issuer);
+            hops.extend(self.enter_in_time(security, csd, technical));
         }
-        for (flag, hops) in [(DEFAULT, defaults), (ALTERNATIVE, alternatives)] {
-            for &(investor, technical) in hops {
-                self.disturb();
-                self.scenario.link(security, investor, technical, flag);
-            }
+        for &(investor, technical) in alternatives {
+            self.disturb();
+            self.enter_alternative(security, investor, technical);
         }
-        let mut hops = [defaults, alternatives].concat();
+        for _ in 0..self.random.pick(&[0, 0, 0, 1, 4]) {
+            let command = commands::link(self.random, self.scenario.directory());
+            let _ = self.scenario.send(command);
+        }
         hops.retain(|hop| hop.0 != hop.1);
         self.random.shuffle(&mut hops);
         let accounts = self.served_accounts(&hops);
@@ -242,12 +250,49 @@ impl Writer<'_> {
             self.leave_out(&mut hops);
         }
         let (left_out, duos) = (self.random.pick(&[0, 0, 0, 10]), self.random.pick(&[1, 1, 2, 3]));
-        let Writer { random, scenario, noise } = self;
+        let Writer { random, scenario, noise, .. } = self;
         scenario.serve_along(&accounts, &hops, |scenario| {
             disturb(random, scenario, *noise);
             let room = scenario.directory().accounts.count < ACCOUNTS - 60;
             (!random.percent(left_out)).then(|| if room { random.below(duos) } else { 0 })
         });
+    }
+
+    /// Enters the issuer or default link of a CSD for today, and sometimes others for the days before and after: to the
+    /// same technical issuer, to another, or an issuer link. Gives the hops of these.
+    fn enter_in_time(&mut self, security: u8, csd: u8, technical: Option<u8>) -> Vec<(u8, u8)> {
+        let (days, beside) = self.calendar.around_today(self.random);
+        let mut links = vec![(days, technical)];
+        for span in beside {
+            match self.random.below(20) {
+                0..=8 => {}
+                9..=13 => links.push((span, technical)),
+                14..=17 => links.push((span, Some(self.random.below(self.scenario.directory().csds.count) as u8))),
+                _ => links.push((span, None)),
+            }
+        }
+        self.random.shuffle(&mut links);
+        for &(days, technical) in &links {
+            self.scenario.days = days;
+            match technical {
+                None => self.scenario.issuer(security, csd),
+                Some(technical) => self.scenario.link(security, csd, technical, DEFAULT),
+            };
+        }
+        self.scenario.days = Period::ALWAYS;
+        links.iter().filter_map(|link| link.1).map(|technical| (csd, technical)).collect()
+    }
+
+    /// Enters an alternative for today, sometimes tried on more days than its defaults may have.
+    fn enter_alternative(&mut self, security: u8, csd: u8, technical: u8) {
+        let tried = self.random.percent(40).then(|| self.calendar.many_days(self.random));
+        for days in tried.into_iter().chain([self.calendar.few_days(self.random)]) {
+            self.scenario.days = days;
+            if self.scenario.link(security, csd, technical, ALTERNATIVE) {
+                break;
+            }
+        }
+        self.scenario.days = Period::ALWAYS;
     }
 
     /// Leaves one hop without any row, often one that leads outside.
@@ -287,7 +332,7 @@ impl Writer<'_> {
             let amount = self.random.some_number();
             let _ = self.scenario.pay_in(account, amount);
         }
-        let rows = Rows::from(self.scenario.directory());
+        let rows = Rows::from(self.scenario.directory()).on(self.calendar.today);
         for &security in securities {
             for &account in &accounts {
                 let chance = if firsts.contains(&account) { 100 } else { 30 };
@@ -298,11 +343,16 @@ impl Writer<'_> {
             for (from, to) in [(ends[0], ends[1]), (ends[1], ends[0])] {
                 let (quantity, amount) = (self.random.between(1, 9) as i64, self.random.below(2) as i64);
                 let (delivering, receiving) = halves(self.scenario.directory(), from, to, security, quantity, amount);
+                let day = self.calendar.today;
                 for form in FORMS {
-                    let _ = self.scenario.send(form.settle(delivering, receiving));
-                    let _ = self.scenario.send(form.derive(delivering, receiving));
+                    let _ = self.scenario.send(form.settle(delivering, receiving, day));
+                    let _ = self.scenario.send(form.derive(delivering, receiving, day));
                 }
+                let (form, day) = (self.random.pick(&FORMS), self.calendar.edge(self.random));
+                let _ = self.scenario.send(form.settle(delivering, receiving, day));
+                let _ = self.scenario.send(form.derive(delivering, receiving, day));
             }
+            self.bring_in_on_other_days(&firsts, security);
         }
         let second = self.scenario.account(csds[0], PARTICIPANT);
         let everyone = [&accounts[..], &ends, &ends, &ends, &[second]].concat();
@@ -310,6 +360,18 @@ impl Writer<'_> {
             self.disturb();
             self.instruct(securities, &everyone);
         }
+    }
+
+    fn bring_in_on_other_days(&mut self, accounts: &[u16], security: u8) {
+        for &account in accounts {
+            if self.random.percent(20) {
+                self.scenario.day = self.calendar.edge(self.random);
+                let _ = self.scenario.bring_in(account, security, 100);
+                self.scenario.day = self.calendar.edge(self.random);
+                let _ = self.scenario.take_out(account, security, 10);
+            }
+        }
+        self.scenario.day = self.calendar.today;
     }
 
     fn bring_in_for(&mut self, account: u16, security: u8, ends: &[u16]) {
@@ -328,14 +390,17 @@ impl Writer<'_> {
         let quantity = self.random.some_number();
         let amount = if self.random.percent(60) { 0 } else { self.random.some_number() };
         let form = self.random.pick(&FORMS);
+        let day = if self.random.percent(50) { self.calendar.today } else { self.calendar.edge(self.random) };
         let scenario = &mut self.scenario;
+        scenario.day = day;
         let (delivering, receiving) = halves(scenario.directory(), from, to, security, quantity, amount);
         let _ = match self.random.below(8) {
-            0..=3 => scenario.send(form.settle(delivering, receiving)),
+            0..=3 => scenario.send(form.settle(delivering, receiving, day)),
             4 => scenario.take_out(from, security, quantity),
             5 => scenario.pay_out(from, amount),
-            _ => scenario.send(form.derive(delivering, receiving)),
+            _ => scenario.send(form.derive(delivering, receiving, day)),
         };
+        scenario.day = self.calendar.today;
     }
 
     /// Many CSDs that hold with one or two technical issuers each, in several securities.
@@ -438,6 +503,34 @@ impl Writer<'_> {
             let accounts: Vec<u16> = others.iter().map(|&csd| self.scenario.participant(csd)).chain([own]).collect();
             self.instruct(&[security], &accounts);
             self.disturb();
+        }
+    }
+
+    /// A few CSDs whose links touch, overlap and leave out days of one another, and what is then traded on these days.
+    fn links_in_time(&mut self) {
+        let security = self.scenario.security();
+        let csds: Vec<u8> = (0..self.random.between(2, 5)).map(|_| self.scenario.csd(IN_T2S)).collect();
+        if self.random.percent(60) {
+            self.scenario.csd(EXTERNAL);
+        }
+        for &csd in &csds {
+            self.scenario.account(csd, ISSUANCE);
+            self.scenario.account(csd, ISSUANCE);
+            let technical = Some(self.random.pick(&csds)).filter(|&other| other != csd);
+            self.enter_in_time(security, csd, technical);
+        }
+        for _ in 0..self.random.between(20, 60) {
+            let command = commands::link(self.random, self.scenario.directory());
+            let _ = self.scenario.send(command);
+        }
+        let links = self.scenario.directory().links.entered().unwrap_or_default();
+        let hops: BTreeSet<(u8, u8)> =
+            links.iter().filter(|link| link.kind == INVESTOR).map(|link| (link.csd, link.technical)).collect();
+        let participants: Vec<u16> = csds.iter().map(|&csd| self.scenario.participant(csd)).collect();
+        self.scenario.serve_along(&participants, &Vec::from_iter(hops), |_| Some(0));
+        for _ in 0..self.random.between(10, 60) {
+            let command = commands::command(self.random, self.scenario.directory());
+            let _ = self.scenario.send(command);
         }
     }
 

@@ -1,8 +1,9 @@
 //! Inputs that are worth keeping: every refusal of every command, chains of every kind and length, sided halves
-//! in either order, branches, check digits, segregated holdings, the ends of the input's length, damaged streams, and
-//! large sums. The model's transcripts are their outputs.
+//! in either order, branches, check digits, segregated holdings, links with days, the ends of the input's length, damaged
+//! streams, and large sums. The model's transcripts are their outputs.
 
 use super::busy;
+use super::dated;
 use super::forms::{Form, FORMS};
 use super::refused;
 use super::scenario::{halves, Scenario};
@@ -28,20 +29,26 @@ pub fn vectors() -> Vec<(&'static str, Vec<u8>)> {
         ("sided-orders", chains(&FORMS, [8, 8], [Top::Issuer, Top::Issuer], None)),
         ("sided-orders-directed", chains(&FORMS, [7, 1], [Top::External, Top::External], Some((6, 0)))),
         ("sided-refusals", refused::sided_settlements()),
-        ("sided-cut-by-one", cut_or_unknown(&[0x0C; 42])),
+        ("sided-cut-by-one", cut_or_unknown(&[0x0C; 44])),
         ("sided-cut-before-second-half", cut_or_unknown(&[0x0D; 22])),
         ("branches", branches()),
         ("check-digits", check_digits()),
         ("segregated-chains", segregated::chains()),
         ("segregated-refusals", segregated::refusals()),
         ("served-omnibus", segregated::served_omnibus()),
+        ("link-periods", dated::periods()),
+        ("links-in-time", dated::in_time()),
+        ("link-cut-by-one", cut_or_unknown(&[0x05; 11])),
+        ("bring-in-cut-by-one", cut_or_unknown(&[0x06; 13])),
+        ("settle-cut-before-day", cut_or_unknown(&[0x0A; 41])),
+        ("sided-cut-before-day", cut_or_unknown(&[0x0D; 43])),
         ("pair-cut-by-one", cut_or_unknown(&[0x0E; 8])),
         ("pair-by-04", cut_or_unknown(&[0x04, 0, 0, 0, 0, 0, 0])),
         ("large-sums", large_sums()),
         ("empty", Vec::new()),
         ("unknown-byte", cut_or_unknown(&[0x00])),
         ("cut-command-byte-alone", cut_or_unknown(&[0x01])),
-        ("cut-settle-by-one", cut_or_unknown(&[0x0A; 40])),
+        ("cut-settle-by-one", cut_or_unknown(&[0x0A; 42])),
         ("bytes-65536", busy::mixed()),
         ("bytes-65537", too_long),
     ]
@@ -94,7 +101,7 @@ fn enter_sides(scenario: &mut Scenario, security: u8, sides: &[Vec<u8>; 2], tops
     for (side, top) in sides.iter().zip(tops) {
         let mut path = side.clone();
         match top {
-            Top::Issuer => scenario.issuer(security, side[side.len() - 1]),
+            Top::Issuer => assert!(scenario.issuer(security, side[side.len() - 1])),
             Top::External => path.push(scenario.csd(EXTERNAL)),
             Top::Joined => path.push(sides[0][sides[0].len() - 1]),
         }
@@ -112,8 +119,9 @@ fn trade(scenario: &mut Scenario, forms: &[Form], security: u8, trades: &[(u16, 
         for (from, to, amount) in [(from, to, amount), (to, from, 0)] {
             let (delivering, receiving) = halves(scenario.directory(), from, to, security, 1, amount);
             for form in forms {
-                scenario.send(form.derive(delivering, receiving)).ok();
-                scenario.send(form.settle(delivering, receiving)).ok();
+                let day = scenario.day;
+                scenario.send(form.derive(delivering, receiving, day)).ok();
+                scenario.send(form.settle(delivering, receiving, day)).ok();
             }
         }
     }

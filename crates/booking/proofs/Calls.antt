@@ -4,7 +4,7 @@ use mathlib.Core.Path.{_≡_, refl}
 use mathlib.Core.List.{List, []}
 use Rattle.rules.specs.declared.Step.{Step}
 use Rattle.rules.specs.Tests.{firstOf}
-use Rattle.rules.specs.Directory.{rowsOf}
+use Rattle.rules.specs.Directory.{rowsOf, rowsOn}
 use Rattle.rules.specs.Lookups.{Lookups, ask}
 use Rattle.rules.specs.Chain.{stepsOf}
 use Rattle.rules.specs.Booking.{Way, moveChain, moveConditions, payment, payConditions, booked, addCents}
@@ -34,11 +34,15 @@ module _ (st : Store) where
   abbrev rows : Lookups
   rows = ask (rowsOf (st .directory))
 
-  pub core-moves : (w : Way) (a s q : ℕ) → core (move w a s q) st ≡ movedOn st (moveOutcome rows (st .positions) w a s q)
+  -- on a day
+  abbrev daily : ℕ → Lookups
+  daily day = ask (rowsOn day (st .directory))
+
+  pub core-moves : (w : Way) (a s q day : ℕ) → core (move w a s q day) st ≡ movedOn st (moveOutcome (daily day) (st .positions) w a s q)
   unfolding core moveOutcome
-  core-moves w a s q = go (firstOf (moveConditions rows (st .positions) w a s q))
+  core-moves w a s q day = go (firstOf (moveConditions (daily day) (st .positions) w a s q))
     where
-      go : (n : ℕ) → outcome n (move w a s q) st ≡ movedOn st (moveOutcomeBy n (st .positions) (booked (stepsOf (moveChain rows w a s)) s q (st .positions)))
+      go : (n : ℕ) → outcome n (move w a s q day) st ≡ movedOn st (moveOutcomeBy n (st .positions) (booked (stepsOf (moveChain (daily day) w a s)) s q (st .positions)))
       go zero = refl
       go (suc n) = refl
 
@@ -54,10 +58,10 @@ module _ (st : Store) where
   abbrev pub ofHalves : Lookups → Halves → SettleOutcome
   ofHalves k hs = settleOutcome k (st .positions) (st .cash) (delivering hs) (receiving hs) (sideUnknown hs) (sameSide hs)
 
-  pub core-settles : (hs : Halves) (lent : List Step) → core (settle hs lent) st ≡ settledOn st lent (ofHalves rows hs)
+  pub core-settles : (hs : Halves) (day : ℕ) (lent : List Step) → core (settle hs day lent) st ≡ settledOn st lent (ofHalves (daily day) hs)
   unfolding core settleOutcome
-  core-settles hs lent = go (firstOf (settleConditions rows (st .positions) (st .cash) hs))
+  core-settles hs day lent = go (firstOf (settleConditions (daily day) (st .positions) (st .cash) hs))
     where
-      go : (n : ℕ) → outcome n (settle hs lent) st ≡ settledOn st lent (settleOutcomeBy n (st .positions) (st .cash) (delivering hs) (receiving hs) (stepsOf (halvesChain rows hs)))
+      go : (n : ℕ) → outcome n (settle hs day lent) st ≡ settledOn st lent (settleOutcomeBy n (st .positions) (st .cash) (delivering hs) (receiving hs) (stepsOf (halvesChain (daily day) hs)))
       go zero = refl
       go (suc n) = refl

@@ -5,7 +5,7 @@ use mathlib.Core.Option.{Option, none, some}
 use Rattle.rules.specs.Lookups.{Lookups}
 use Rattle.rules.specs.Booking.{interCsd, contra}
 use Rattle.rules.proofs.Basics.{impossible}
-use Rattle.index.specs.declared.lookups.Leading.the-variants.{Issuer, To, Nowhere}
+use Rattle.index.specs.declared.links.Leading.the-variants.{Issuer, To, Nowhere}
 use Rattle.index.specs.Found.{leadingOf}
 use Rattle.index.proofs.Leads.{issuer-told, default-told, nothing-told}
 use Rattle.booking.specs.declared.moves.Contra.the-variants.{At, Missing}

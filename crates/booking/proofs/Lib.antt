@@ -6,5 +6,6 @@ pub mod Summed
 pub mod Refused
 pub mod Settled
 pub mod Contras
+pub mod Days
 pub mod Moved
 pub mod Calls

@@ -4,15 +4,15 @@ use crate::positions::move_units;
 use crate::refusals::book_refusal;
 use crate::refusals::call_refusal;
 use crate::refusals::out_of_range;
-use index::lookups::Leading;
+use index::links::Leading;
+use index::links::issuance_of;
+use index::links::leading_at;
 use index::lookups::PairFound;
 use index::lookups::home_of;
 use index::lookups::is_account;
 use index::lookups::is_external;
 use index::lookups::is_kind;
 use index::lookups::is_security;
-use index::lookups::issuance_of;
-use index::lookups::leading_at;
 use index::lookups::pair_of;
 use index::places::INDEX;
 use rules::Answer;
@@ -25,7 +25,7 @@ ghost use Prim.Native.Nat.{_≤_};
 ghost use lib.Dec.{eqb};
 ghost use Rattle.rules.specs.Tests.{firstOf};
 ghost use Rattle.rules.specs.Booking.{limit, interCsd, contra, moveStep, moved};
-ghost use Rattle.index.specs.Asked.{asked};
+ghost use Rattle.index.specs.Asked.{asked, askedOn};
 ghost use Rattle.booking.specs.Moves.{wayOf, contraFound, operandConditions, stepConditions, moveOutcome};
 
 // The account on the other side, if there is one.
@@ -47,12 +47,12 @@ fn inter_csd(index: &[u16; INDEX], csd: u8, account: u16, technical: u8) -> Cont
     Contra::Missing
 }
 
-// "in its CSD, the issuance account of its issuer link, else the inter-CSD account"
-fn contra_of(index: &[u16; INDEX], security: u8, csd: u8, account: u16) -> Contra
-    ensures { λ r. ⌜ r ≡ contraFound (contra (asked (now (index .entry))) security csd account) ⌝ }
+// "in its CSD, the issuance account of its issuer link, else the inter-CSD account", by the links of the day
+fn contra_of(index: &[u16; INDEX], security: u8, csd: u8, account: u16, day: u16) -> Contra
+    ensures { λ r. ⌜ r ≡ contraFound (contra (askedOn (now (index .entry)) day) security csd account) ⌝ }
 {
-    match leading_at(index, security, csd) {
-        Leading::Issuer => Contra::At(issuance_of(index, security, csd)),
+    match leading_at(index, security, csd, day) {
+        Leading::Issuer => Contra::At(issuance_of(index, security, csd, day)),
         Leading::To(technical) => inter_csd(index, csd, account, technical),
         Leading::Nowhere => Contra::Missing,
     }
@@ -116,17 +116,18 @@ pub fn move_securities(
     account: u16,
     security: u8,
     quantity: u64,
+    day: u16,
 ) -> Answer
-    ensures answer { λ r. ⌜ r ≡ moveOutcome (asked (now (index .entry))) (now (positions .entry)) (wayOf incoming) account security quantity .answer ⌝ }
+    ensures answer { λ r. ⌜ r ≡ moveOutcome (askedOn (now (index .entry)) day) (now (positions .entry)) (wayOf incoming) account security quantity .answer ⌝ }
     ensures positions { λ _. ⌜ now (positions .exit)
-        ≡ moveOutcome (asked (now (index .entry))) (now (positions .entry)) (wayOf incoming) account security quantity .positions ⌝ }
+        ≡ moveOutcome (askedOn (now (index .entry)) day) (now (positions .entry)) (wayOf incoming) account security quantity .positions ⌝ }
 {
     let refusal = move_refusal(index, account, security, quantity);
     if refusal != 0 {
         return Answer::Refused(refusal);
     }
     let csd = home_of(index, account);
-    let Contra::At(other) = contra_of(index, security, csd, account) else {
+    let Contra::At(other) = contra_of(index, security, csd, account, day) else {
         return Answer::Refused(19);
     };
     let step = move_step(incoming, csd, account, other);

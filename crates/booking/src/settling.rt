@@ -19,7 +19,7 @@ ghost use Rattle.rules.specs.Tests.{firstOf};
 ghost use Rattle.rules.specs.Chain.{stepLimit};
 ghost use Rattle.rules.specs.Booking.{limit, booked, unitsBeyond};
 ghost use Rattle.rules.specs.Calls.{bookConditions};
-ghost use Rattle.index.specs.Asked.{asked};
+ghost use Rattle.index.specs.Asked.{asked, askedOn};
 ghost use Rattle.chain.specs.StepList.{stepsIn};
 ghost use Rattle.booking.specs.Settling.{Settles};
 
@@ -64,8 +64,8 @@ fn judge_booking(
     book_refusal(units.short, unpaid, units.beyond | payment)
 }
 
-// 6 to 13 of the halves and their sides, 14 to 18 of their chain, 20 to 22 of its booking; then it is booked and paid for. A step list of another length is
-// refused 3.
+// 6 to 13 of the halves and their sides, 14 to 18 of their chain on the day, 20 to 22 of its booking; then it is booked and paid for. A step list of another length
+// is refused 3.
 pub fn settle(
     index: &[u16; INDEX],
     positions: &mut [i64],
@@ -75,8 +75,9 @@ pub fn settle(
     receiving: Half,
     unknown: bool,
     same: bool,
+    day: u16,
 ) -> Answer
-    ensures { λ r. ⌜ Settles (now (steps .entry)) (now (steps .exit)) (asked (now (index .entry))) (now (positions .entry)) (now (cash .entry))
+    ensures { λ r. ⌜ Settles (now (steps .entry)) (now (steps .exit)) (askedOn (now (index .entry)) day) (now (positions .entry)) (now (cash .entry))
         delivering receiving unknown same r (now (positions .exit)) (now (cash .exit)) ⌝ }
 {
     if steps.len() != STEP_NUMBERS {
@@ -92,6 +93,7 @@ pub fn settle(
         delivering.account,
         receiving.account,
         steps,
+        day,
     );
     if found.refusal != 0 {
         return Answer::Refused(found.refusal);

@@ -18,14 +18,14 @@ use Rattle.rules.specs.declared.Units.{Units}
 use Rattle.rules.specs.declared.Directory.{Directory}
 use Rattle.rules.specs.declared.Step.{Step}
 use Rattle.rules.specs.declared.Reply.{Reply}
-use Rattle.rules.specs.Directory.{rowsOf}
+use Rattle.rules.specs.Directory.{rowsOf, rowsOn}
 use Rattle.rules.specs.Entries.{sound}
 use Rattle.rules.specs.Lookups.{Lookups, ask}
 use Rattle.rules.specs.Chain.{step, stepLimit}
 use Rattle.rules.specs.Booking.{Way, positionCount, cashCount, participantSum, securityTotalBy, securityTotalConditions}
 use Rattle.rules.specs.Calls.{Halves, delivering, receiving, sideUnknown, sameSide, Store, Call, Outcome, move, pay, settle, derive, misfit, core, countOf, written, deskSecurityTotal, deskCashTotal}
 use Rattle.rules.proofs.Basics.{eqb-true, eqb-false}
-use Rattle.index.specs.Asked.{asked}
+use Rattle.index.specs.Asked.{asked, askedOn}
 use Rattle.index.proofs.Answers.{answers}
 use Rattle.entries.specs.Entered.{Kept, Keeps}
 use Rattle.chain.specs.StepList.{stepNumbers, stepsIn}
@@ -58,25 +58,29 @@ stepsLeft o = o .steps
 
 -- the index answers as the directory that was read into it
 same : (d : Directory) (k : Kept) → Keeps k d → asked (k .numbers) ≡ ask (rowsOf d)
-same d k keeps = answers (k .numbers) d (keeps .indexed)
+same d k keeps = answers .ever (k .numbers) d (keeps .indexed)
+
+-- on a day too
+same-on : (d : Directory) (k : Kept) → Keeps k d → (day : ℕ) → askedOn (k .numbers) day ≡ ask (rowsOn day d)
+same-on d k keeps day = answers .daily (k .numbers) d (keeps .indexed) day
 
 -- ---- bring in and take out
-module _ (d : Directory) (p : List ℤ) (w : Way) (a s q n : ℕ) (k : Kept) (e : Admits (not (eqb (length p) positionCount)) d n k) where
+module _ (d : Directory) (p : List ℤ) (w : Way) (a s q day n : ℕ) (k : Kept) (e : Admits (not (eqb (length p) positionCount)) d n k) where
   abbrev Moved : Answer → List ℤ → Outcome → Type 0
   Moved r left o = (r ≡ o .answer) × (left ≡ o .store .positions)
 
-  pub movement-refused : n ≢ 0 → Moved (Refused n) p (movementOn d p w a s q)
+  pub movement-refused : n ≢ 0 → Moved (Refused n) p (movementOn d p w a s q day)
   unfolding misfit
   movement-refused ne =
-      let o = early-refused (move w a s q) (holding d p []) n (e .number) ne in
+      let o = early-refused (move w a s q day) (holding d p []) n (e .number) ne in
       (sym (ap answerOf o), sym (ap positionsOf o))
 
-  moves : n ≡ 0 → movedOn (holding d p []) (moveOutcome (asked (k .numbers)) p w a s q) ≡ movementOn d p w a s q
+  moves : n ≡ 0 → movedOn (holding d p []) (moveOutcome (askedOn (k .numbers) day) p w a s q) ≡ movementOn d p w a s q day
   unfolding misfit
-  moves z = rw (same d k (e .keeps z)) (sym (early-passed (move w a s q) (holding d p []) n (e .number) z ∙ core-moves (holding d p []) w a s q))
+  moves z = rw (same-on d k (e .keeps z) day) (sym (early-passed (move w a s q day) (holding d p []) n (e .number) z ∙ core-moves (holding d p []) w a s q day))
 
-  pub movement-passed : n ≡ 0 → (r : Answer) (left : List ℤ) → r ≡ moveOutcome (asked (k .numbers)) p w a s q .answer
-      → left ≡ moveOutcome (asked (k .numbers)) p w a s q .positions → Moved r left (movementOn d p w a s q)
+  pub movement-passed : n ≡ 0 → (r : Answer) (left : List ℤ) → r ≡ moveOutcome (askedOn (k .numbers) day) p w a s q .answer
+      → left ≡ moveOutcome (askedOn (k .numbers) day) p w a s q .positions → Moved r left (movementOn d p w a s q day)
   movement-passed z r left f g = (f ∙ ap answerOf (moves z), g ∙ ap positionsOf (moves z))
 
 -- ---- pay in and pay out
@@ -155,9 +159,9 @@ blankNumbers = replicate stepNumbers 0
 size : length blankNumbers ≡ stepNumbers
 size = length-replicate {A = ℕ} stepNumbers 0
 
-module _ (d : Directory) (lent : ℕ) (hs : Halves) (n : ℕ) (k : Kept) (e : Admits (ltb lent stepLimit) d n k) where
+module _ (d : Directory) (lent : ℕ) (hs : Halves) (day n : ℕ) (k : Kept) (e : Admits (ltb lent stepLimit) d n k) where
   abbrev called : Call
-  called = derive hs (blanks lent)
+  called = derive hs day (blanks lent)
 
   abbrev handed : Store
   handed = holding d [] []
@@ -166,31 +170,31 @@ module _ (d : Directory) (lent : ℕ) (hs : Halves) (n : ℕ) (k : Kept) (e : Ad
   unfolding misfit
   derive-early = e .number ∙ ap (λ (i : ℕ). early (ltb i stepLimit) d) (sym (length-replicate lent (step 0 0 0)))
 
-  pub derivation-refused : n ≢ 0 → refusal n ≡ replyOf (derivationOn d (blanks lent) hs)
-  derivation-refused ne = refusal-replied (derivationOn d (blanks lent) hs) n (ap answerOf (early-refused called handed n derive-early ne))
+  pub derivation-refused : n ≢ 0 → refusal n ≡ replyOf (derivationOn d (blanks lent) hs day)
+  derivation-refused ne = refusal-replied (derivationOn d (blanks lent) hs day) n (ap answerOf (early-refused called handed n derive-early ne))
 
-  module _ (z : n ≡ 0) (r : Answer) (m : List ℕ) (o : Derives blankNumbers m (asked (k .numbers)) (delivering hs) (receiving hs) (sideUnknown hs) (sameSide hs) r) where
-    the-core : outcomeOf handed (blanks lent) (derivedInto blankNumbers (asked (k .numbers)) (delivering hs) (receiving hs) (sideUnknown hs) (sameSide hs)) ≡ core called handed
+  module _ (z : n ≡ 0) (r : Answer) (m : List ℕ) (o : Derives blankNumbers m (askedOn (k .numbers) day) (delivering hs) (receiving hs) (sideUnknown hs) (sameSide hs) r) where
+    the-core : outcomeOf handed (blanks lent) (derivedInto blankNumbers (askedOn (k .numbers) day) (delivering hs) (receiving hs) (sideUnknown hs) (sameSide hs)) ≡ core called handed
     the-core =
-        ap (outcomeOf handed (blanks lent)) (derived-fits blankNumbers (asked (k .numbers)) (delivering hs) (receiving hs) (sideUnknown hs) (sameSide hs) size ∙ ap (λ (l : Lookups). derived l (delivering hs) (receiving hs) (sideUnknown hs) (sameSide hs)) (same d k (e .keeps z)))
-        ∙ sym (core-derives handed hs (blanks lent))
+        ap (outcomeOf handed (blanks lent)) (derived-fits blankNumbers (askedOn (k .numbers) day) (delivering hs) (receiving hs) (sideUnknown hs) (sameSide hs) size ∙ ap (λ (l : Lookups). derived l (delivering hs) (receiving hs) (sideUnknown hs) (sameSide hs)) (same-on d k (e .keeps z) day))
+        ∙ sym (core-derives handed hs day (blanks lent))
 
     answered : r ≡ core called handed .answer
     answered = o .answer ∙ ap answerOf the-core
 
     pub derivation-few : countOf r ≤ stepLimit
-    derivation-few = core-few handed hs derives (blanks lent) r answered
+    derivation-few = core-few handed hs day derives (blanks lent) r answered
 
-    pub derivation-passed : replied r m ≡ replyOf (derivationOn d (blanks lent) hs)
+    pub derivation-passed : replied r m ≡ replyOf (derivationOn d (blanks lent) hs day)
     derivation-passed =
         let whole = the-core ∙ sym (early-passed called handed n derive-early z) in
         let steps = ap (λ (xs : List Step). written xs (blanks lent)) (o .steps) ∙ ap stepsLeft whole in
-        steps-replied (derivationOn d (blanks lent) hs) (blanks lent) r m (o .answer ∙ ap answerOf whole) steps
+        steps-replied (derivationOn d (blanks lent) hs day) (blanks lent) r m (o .answer ∙ ap answerOf whole) steps
 
-module _ (d : Directory) (p c : List ℤ) (lent : ℕ) (hs : Halves) (n : ℕ) (k : Kept)
+module _ (d : Directory) (p c : List ℤ) (lent : ℕ) (hs : Halves) (day n : ℕ) (k : Kept)
     (e : Admits (not (eqb (length p) positionCount) || (not (eqb (length c) cashCount) || ltb lent stepLimit)) d n k) where
   abbrev settled : Call
-  settled = settle hs (blanks lent)
+  settled = settle hs day (blanks lent)
 
   settle-early : n ≡ early (misfit settled (holding d p c)) d
   unfolding misfit
@@ -202,29 +206,29 @@ module _ (d : Directory) (p c : List ℤ) (lent : ℕ) (hs : Halves) (n : ℕ) (
   abbrev Settled : Reply → List ℤ → List ℤ → Outcome → Type 0
   Settled r left cash o = (r ≡ replyOf o) × (left ≡ o .store .positions) × (cash ≡ o .store .cash)
 
-  pub settlement-refused : n ≢ 0 → Settled (refusal n) p c (settlementOn d p c (blanks lent) hs)
+  pub settlement-refused : n ≢ 0 → Settled (refusal n) p c (settlementOn d p c (blanks lent) hs day)
   settlement-refused ne =
       let o = early-refused settled (holding d p c) n settle-early ne in
-      (refusal-replied (settlementOn d p c (blanks lent) hs) n (ap answerOf o), sym (ap positionsOf o), sym (ap cashOf o))
+      (refusal-replied (settlementOn d p c (blanks lent) hs day) n (ap answerOf o), sym (ap positionsOf o), sym (ap cashOf o))
 
-  module _ (z : n ≡ 0) (r : Answer) (left cash : List ℤ) (m : List ℕ) (o : Settles blankNumbers m (asked (k .numbers)) p c (delivering hs) (receiving hs) (sideUnknown hs) (sameSide hs) r left cash) where
-    the-booking : settledOn (holding d p c) (blanks lent) (settleInto blankNumbers (asked (k .numbers)) p c (delivering hs) (receiving hs) (sideUnknown hs) (sameSide hs)) ≡ core settled (holding d p c)
+  module _ (z : n ≡ 0) (r : Answer) (left cash : List ℤ) (m : List ℕ) (o : Settles blankNumbers m (askedOn (k .numbers) day) p c (delivering hs) (receiving hs) (sideUnknown hs) (sameSide hs) r left cash) where
+    the-booking : settledOn (holding d p c) (blanks lent) (settleInto blankNumbers (askedOn (k .numbers) day) p c (delivering hs) (receiving hs) (sideUnknown hs) (sameSide hs)) ≡ core settled (holding d p c)
     the-booking =
         ap (settledOn (holding d p c) (blanks lent))
-        (settle-fits blankNumbers (asked (k .numbers)) p c (delivering hs) (receiving hs) (sideUnknown hs) (sameSide hs) size ∙ ap (λ (l : Lookups). settleOutcome l p c (delivering hs) (receiving hs) (sideUnknown hs) (sameSide hs)) (same d k (e .keeps z)))
-        ∙ sym (core-settles (holding d p c) hs (blanks lent))
+        (settle-fits blankNumbers (askedOn (k .numbers) day) p c (delivering hs) (receiving hs) (sideUnknown hs) (sameSide hs) size ∙ ap (λ (l : Lookups). settleOutcome l p c (delivering hs) (receiving hs) (sideUnknown hs) (sameSide hs)) (same-on d k (e .keeps z) day))
+        ∙ sym (core-settles (holding d p c) hs day (blanks lent))
 
     booked : r ≡ core settled (holding d p c) .answer
     booked = o .answer ∙ ap answerOf the-booking
 
     pub settlement-few : countOf r ≤ stepLimit
-    settlement-few = core-few (holding d p c) hs settles (blanks lent) r booked
+    settlement-few = core-few (holding d p c) hs day settles (blanks lent) r booked
 
-    pub settlement-passed : Settled (replied r m) left cash (settlementOn d p c (blanks lent) hs)
+    pub settlement-passed : Settled (replied r m) left cash (settlementOn d p c (blanks lent) hs day)
     settlement-passed =
         let whole = the-booking ∙ sym (early-passed settled (holding d p c) n settle-early z) in
         let steps = ap (λ (xs : List Step). written xs (blanks lent)) (o .steps) ∙ ap stepsLeft whole in (
-          steps-replied (settlementOn d p c (blanks lent) hs) (blanks lent) r m (o .answer ∙ ap answerOf whole) steps,
+          steps-replied (settlementOn d p c (blanks lent) hs day) (blanks lent) r m (o .answer ∙ ap answerOf whole) steps,
           o .positions ∙ ap positionsOf whole,
           o .cash ∙ ap cashOf whole,
         )

@@ -45,6 +45,8 @@ const BLANK_LINK: Link = Link {
     technical: 0,
     flag: 0,
     account: 0,
+    first: 0,
+    last: 0,
 };
 
 // "An empty store has no row"

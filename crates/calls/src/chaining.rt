@@ -77,7 +77,7 @@ fn replied(answer: Answer, numbers: &[u16]) -> Reply
 
 // ---- the calls
 
-// The chain of two halves, for a caller that is lent `lent` steps. What is asked of the sides comes last.
+// The chain of two halves on a day, for a caller that is lent `lent` steps. What is asked of the sides comes last.
 fn derived(
     directory: Directory,
     lent: usize,
@@ -85,9 +85,10 @@ fn derived(
     receiving: Half,
     unknown: bool,
     same: bool,
+    day: u16,
 ) -> Reply
     requires { ⌜ Halved delivering receiving unknown same ⌝ }
-    ensures { λ r. ⌜ ((hs : Halves) → Handed hs delivering receiving unknown same → r ≡ replyOf (derivationOn directory (blanks lent) hs)) ⌝ }
+    ensures { λ r. ⌜ ((hs : Halves) → Handed hs delivering receiving unknown same → r ≡ replyOf (derivationOn directory (blanks lent) hs day)) ⌝ }
 {
     let mut index: [u16; INDEX] = [0; INDEX];
     let mut names: [u8; NAMES] = [0; NAMES];
@@ -96,7 +97,15 @@ fn derived(
         return refused(number);
     }
     let mut numbers: [u16; STEP_NUMBERS] = [0; STEP_NUMBERS];
-    let answer = derivation::derive(&index, &mut numbers, delivering, receiving, unknown, same);
+    let answer = derivation::derive(
+        &index,
+        &mut numbers,
+        delivering,
+        receiving,
+        unknown,
+        same,
+        day,
+    );
     replied(answer, &numbers)
 }
 
@@ -110,12 +119,13 @@ fn settled(
     receiving: Half,
     unknown: bool,
     same: bool,
+    day: u16,
 ) -> Reply
     requires { ⌜ Halved delivering receiving unknown same ⌝ }
     ensures { λ r. ⌜ ((hs : Halves) → Handed hs delivering receiving unknown same
-        → (r ≡ replyOf (settlementOn directory (now (positions .entry)) (now (cash .entry)) (blanks lent) hs))
-        × (now (positions .exit) ≡ settlementOn directory (now (positions .entry)) (now (cash .entry)) (blanks lent) hs .store .positions)
-        × (now (cash .exit) ≡ settlementOn directory (now (positions .entry)) (now (cash .entry)) (blanks lent) hs .store .cash)) ⌝ }
+        → (r ≡ replyOf (settlementOn directory (now (positions .entry)) (now (cash .entry)) (blanks lent) hs day))
+        × (now (positions .exit) ≡ settlementOn directory (now (positions .entry)) (now (cash .entry)) (blanks lent) hs day .store .positions)
+        × (now (cash .exit) ≡ settlementOn directory (now (positions .entry)) (now (cash .entry)) (blanks lent) hs day .store .cash)) ⌝ }
 {
     let mut index: [u16; INDEX] = [0; INDEX];
     let mut names: [u8; NAMES] = [0; NAMES];
@@ -134,15 +144,22 @@ fn settled(
         receiving,
         unknown,
         same,
+        day,
     );
     replied(answer, &numbers)
 }
 
-// The chain of two halves, delivering first, for a caller that is lent `lent` steps.
-pub fn derive_reply(directory: Directory, lent: usize, delivering: Half, receiving: Half) -> Reply
-    ensures { λ r. ⌜ r ≡ replyOf (derivationOn directory (blanks lent) (ordered delivering receiving)) ⌝ }
+// The chain of two halves on a day, delivering first, for a caller that is lent `lent` steps.
+pub fn derive_reply(
+    directory: Directory,
+    lent: usize,
+    delivering: Half,
+    receiving: Half,
+    day: u16,
+) -> Reply
+    ensures { λ r. ⌜ r ≡ replyOf (derivationOn directory (blanks lent) (ordered delivering receiving) day) ⌝ }
 {
-    derived(directory, lent, delivering, receiving, false, false)
+    derived(directory, lent, delivering, receiving, false, false, day)
 }
 
 // The same of two halves with their sides, in either order.
@@ -151,8 +168,9 @@ pub fn derive_sided_reply(
     lent: usize,
     first: SidedHalf,
     second: SidedHalf,
+    day: u16,
 ) -> Reply
-    ensures { λ r. ⌜ r ≡ replyOf (derivationOn directory (blanks lent) (sided first second)) ⌝ }
+    ensures { λ r. ⌜ r ≡ replyOf (derivationOn directory (blanks lent) (sided first second) day) ⌝ }
 {
     let pair = in_order(first, second);
     derived(
@@ -162,10 +180,11 @@ pub fn derive_sided_reply(
         pair.receiving,
         pair.unknown,
         pair.same,
+        day,
     )
 }
 
-// Two halves booked, delivering first, for a caller that is lent `lent` steps.
+// Two halves booked by the links of a day, delivering first, for a caller that is lent `lent` steps.
 pub fn settle_reply(
     directory: Directory,
     positions: &mut [i64],
@@ -173,11 +192,12 @@ pub fn settle_reply(
     lent: usize,
     delivering: Half,
     receiving: Half,
+    day: u16,
 ) -> Reply
-    ensures { λ r. ⌜ (r ≡ replyOf (settlementOn directory (now (positions .entry)) (now (cash .entry)) (blanks lent) (ordered delivering receiving)))
+    ensures { λ r. ⌜ (r ≡ replyOf (settlementOn directory (now (positions .entry)) (now (cash .entry)) (blanks lent) (ordered delivering receiving) day))
         × (now (positions .exit)
-        ≡ settlementOn directory (now (positions .entry)) (now (cash .entry)) (blanks lent) (ordered delivering receiving) .store .positions)
-        × (now (cash .exit) ≡ settlementOn directory (now (positions .entry)) (now (cash .entry)) (blanks lent) (ordered delivering receiving) .store .cash) ⌝ }
+        ≡ settlementOn directory (now (positions .entry)) (now (cash .entry)) (blanks lent) (ordered delivering receiving) day .store .positions)
+        × (now (cash .exit) ≡ settlementOn directory (now (positions .entry)) (now (cash .entry)) (blanks lent) (ordered delivering receiving) day .store .cash) ⌝ }
 {
     settled(
         directory,
@@ -188,6 +208,7 @@ pub fn settle_reply(
         receiving,
         false,
         false,
+        day,
     )
 }
 
@@ -199,10 +220,11 @@ pub fn settle_sided_reply(
     lent: usize,
     first: SidedHalf,
     second: SidedHalf,
+    day: u16,
 ) -> Reply
-    ensures { λ r. ⌜ (r ≡ replyOf (settlementOn directory (now (positions .entry)) (now (cash .entry)) (blanks lent) (sided first second)))
-        × (now (positions .exit) ≡ settlementOn directory (now (positions .entry)) (now (cash .entry)) (blanks lent) (sided first second) .store .positions)
-        × (now (cash .exit) ≡ settlementOn directory (now (positions .entry)) (now (cash .entry)) (blanks lent) (sided first second) .store .cash) ⌝ }
+    ensures { λ r. ⌜ (r ≡ replyOf (settlementOn directory (now (positions .entry)) (now (cash .entry)) (blanks lent) (sided first second) day))
+        × (now (positions .exit) ≡ settlementOn directory (now (positions .entry)) (now (cash .entry)) (blanks lent) (sided first second) day .store .positions)
+        × (now (cash .exit) ≡ settlementOn directory (now (positions .entry)) (now (cash .entry)) (blanks lent) (sided first second) day .store .cash) ⌝ }
 {
     let halves = in_order(first, second);
     settled(
@@ -214,14 +236,15 @@ pub fn settle_sided_reply(
         halves.receiving,
         halves.unknown,
         halves.same,
+        day,
     )
 }
 
-// The chain of two halves, delivering first, with its steps by value: what a lent list of 16 blank steps would hold.
-pub fn derive_by_value(directory: Directory, delivering: Half, receiving: Half) -> Reply
-    ensures { λ r. ⌜ r ≡ replyOf (derivationOn directory (blanks stepLimit) (ordered delivering receiving)) ⌝ }
+// The chain of two halves on a day, delivering first, with its steps by value: what a lent list of 16 blank steps would hold.
+pub fn derive_by_value(directory: Directory, delivering: Half, receiving: Half, day: u16) -> Reply
+    ensures { λ r. ⌜ r ≡ replyOf (derivationOn directory (blanks stepLimit) (ordered delivering receiving) day) ⌝ }
 {
-    derive_reply(directory, STEPS, delivering, receiving)
+    derive_reply(directory, STEPS, delivering, receiving, day)
 }
 
 // Two halves booked, likewise.
@@ -231,12 +254,21 @@ pub fn settle_by_value(
     cash: &mut [i64],
     delivering: Half,
     receiving: Half,
+    day: u16,
 ) -> Reply
-    ensures { λ r. ⌜ (r ≡ replyOf (settlementOn directory (now (positions .entry)) (now (cash .entry)) (blanks stepLimit) (ordered delivering receiving)))
+    ensures { λ r. ⌜ (r ≡ replyOf (settlementOn directory (now (positions .entry)) (now (cash .entry)) (blanks stepLimit) (ordered delivering receiving) day))
         × (now (positions .exit)
-        ≡ settlementOn directory (now (positions .entry)) (now (cash .entry)) (blanks stepLimit) (ordered delivering receiving) .store .positions)
+        ≡ settlementOn directory (now (positions .entry)) (now (cash .entry)) (blanks stepLimit) (ordered delivering receiving) day .store .positions)
         × (now (cash .exit)
-        ≡ settlementOn directory (now (positions .entry)) (now (cash .entry)) (blanks stepLimit) (ordered delivering receiving) .store .cash) ⌝ }
+        ≡ settlementOn directory (now (positions .entry)) (now (cash .entry)) (blanks stepLimit) (ordered delivering receiving) day .store .cash) ⌝ }
 {
-    settle_reply(directory, positions, cash, STEPS, delivering, receiving)
+    settle_reply(
+        directory,
+        positions,
+        cash,
+        STEPS,
+        delivering,
+        receiving,
+        day,
+    )
 }

@@ -17,7 +17,7 @@ ghost use Rattle.rules.specs.Calls.{deskSecurityTotal, deskCashTotal};
 ghost use Rattle.booking.specs.Moves.{wayOf};
 ghost use Rattle.rules.specs.Outcomes.{movementOn, paymentOn};
 
-// A bring-in or take-out.
+// A bring-in or take-out, by the links of the day.
 fn movement(
     directory: Directory,
     positions: &mut [i64],
@@ -25,9 +25,10 @@ fn movement(
     account: u16,
     security: u8,
     quantity: u64,
+    day: u16,
 ) -> Answer
-    ensures { λ r. ⌜ (r ≡ movementOn directory (now (positions .entry)) (wayOf incoming) account security quantity .answer)
-        × (now (positions .exit) ≡ movementOn directory (now (positions .entry)) (wayOf incoming) account security quantity .store .positions) ⌝ }
+    ensures { λ r. ⌜ (r ≡ movementOn directory (now (positions .entry)) (wayOf incoming) account security quantity day .answer)
+        × (now (positions .exit) ≡ movementOn directory (now (positions .entry)) (wayOf incoming) account security quantity day .store .positions) ⌝ }
 {
     let mut index: [u16; INDEX] = [0; INDEX];
     let mut names: [u8; NAMES] = [0; NAMES];
@@ -40,21 +41,30 @@ fn movement(
     if number != 0 {
         return Answer::Refused(number);
     }
-    move_securities(&index, positions, incoming, account, security, quantity)
+    move_securities(
+        &index,
+        positions,
+        incoming,
+        account,
+        security,
+        quantity,
+        day,
+    )
 }
 
-// Credits a participant account from its CSD's issuance or inter-CSD account.
+// Credits a participant account from its CSD's issuance or inter-CSD account, by the links of the day.
 pub fn bring_in(
     directory: Directory,
     positions: &mut [i64],
     account: u16,
     security: u8,
     quantity: u64,
+    day: u16,
 ) -> Answer
-    ensures { λ r. ⌜ (r ≡ movementOn directory (now (positions .entry)) incoming account security quantity .answer)
-        × (now (positions .exit) ≡ movementOn directory (now (positions .entry)) incoming account security quantity .store .positions) ⌝ }
+    ensures { λ r. ⌜ (r ≡ movementOn directory (now (positions .entry)) incoming account security quantity day .answer)
+        × (now (positions .exit) ≡ movementOn directory (now (positions .entry)) incoming account security quantity day .store .positions) ⌝ }
 {
-    movement(directory, positions, true, account, security, quantity)
+    movement(directory, positions, true, account, security, quantity, day)
 }
 
 // The reverse.
@@ -64,11 +74,20 @@ pub fn take_out(
     account: u16,
     security: u8,
     quantity: u64,
+    day: u16,
 ) -> Answer
-    ensures { λ r. ⌜ (r ≡ movementOn directory (now (positions .entry)) outgoing account security quantity .answer)
-        × (now (positions .exit) ≡ movementOn directory (now (positions .entry)) outgoing account security quantity .store .positions) ⌝ }
+    ensures { λ r. ⌜ (r ≡ movementOn directory (now (positions .entry)) outgoing account security quantity day .answer)
+        × (now (positions .exit) ≡ movementOn directory (now (positions .entry)) outgoing account security quantity day .store .positions) ⌝ }
 {
-    movement(directory, positions, false, account, security, quantity)
+    movement(
+        directory,
+        positions,
+        false,
+        account,
+        security,
+        quantity,
+        day,
+    )
 }
 
 // A pay-in or pay-out.

@@ -10,7 +10,7 @@ use Rattle.rules.specs.declared.Step.{Step}
 use Rattle.rules.specs.declared.Answer.{Answer}
 use Rattle.rules.specs.declared.Answer.the-variants.{Chained, Refused}
 use Rattle.rules.specs.Tests.{firstOf}
-use Rattle.rules.specs.Directory.{rowsOf}
+use Rattle.rules.specs.Directory.{rowsOn}
 use Rattle.rules.specs.Lookups.{Lookups, ask}
 use Rattle.rules.specs.Chain.{chained, unchained, chain, stepsOf, chainConditions}
 use Rattle.rules.specs.Calls.{Halves, Store, Outcome, derive, outcome, core, written, delivering, receiving, sideUnknown, sameSide, bothConditions, halvesChain, deriveConditions}
@@ -111,20 +111,20 @@ pub handed-derives : {hs : Halves} {h g : Half} {unknown same : Bool} → Handed
     → Derives l m k h g unknown same r → Derives l m k (delivering hs) (receiving hs) (sideUnknown hs) (sameSide hs) r
 handed-derives x l m k r o = rw (x .delivers, x .receives, x .unknownSide, x .oneSide) o
 
--- ---- the rules' call is the derivation over what its directory answers
+-- ---- the rules' call is the derivation over what its directory answers on the day
 -- a derivation's outcome on a store, with the step list that the call is lent
 abbrev pub outcomeOf : Store → List Step → Derived → Outcome
 outcomeOf st lent x = record { answer = x .answer; store = st; steps = written (x .steps) lent }
 
-module _ (st : Store) (hs : Halves) (lent : List Step) where
+module _ (st : Store) (hs : Halves) (day : ℕ) (lent : List Step) where
   -- the derivation of two halves as they are given
   abbrev pub ofHalves : Lookups → Derived
   ofHalves k = derived k (delivering hs) (receiving hs) (sideUnknown hs) (sameSide hs)
 
-  by-cases : (n : ℕ) → outcome n (derive hs lent) st ≡ outcomeOf st lent (derivedBy n (stepsOf (halvesChain (ask (rowsOf (st .directory))) hs)))
+  by-cases : (n : ℕ) → outcome n (derive hs day lent) st ≡ outcomeOf st lent (derivedBy n (stepsOf (halvesChain (ask (rowsOn day (st .directory))) hs)))
   by-cases zero = refl
   by-cases (suc n) = refl
 
-  pub core-derives : core (derive hs lent) st ≡ outcomeOf st lent (ofHalves (ask (rowsOf (st .directory))))
+  pub core-derives : core (derive hs day lent) st ≡ outcomeOf st lent (ofHalves (ask (rowsOn day (st .directory))))
   unfolding core derived
-  core-derives = by-cases (firstOf (deriveConditions (ask (rowsOf (st .directory))) hs))
+  core-derives = by-cases (firstOf (deriveConditions (ask (rowsOn day (st .directory))) hs))

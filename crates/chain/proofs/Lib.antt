@@ -1,5 +1,6 @@
 pub mod StepList
 pub mod Climbing
+pub mod Days
 pub mod Putting
 pub mod Linking
 pub mod Ranges

@@ -3,8 +3,8 @@
 use crate::step_list::STEP_NUMBERS;
 use crate::step_list::put_step;
 use crate::step_list::step_at;
+use index::links::issuance_of;
 use index::lookups::PairFound;
-use index::lookups::issuance_of;
 use index::lookups::pair_of;
 use index::places::INDEX;
 use rules::Join;
@@ -18,7 +18,7 @@ ghost use Prim.Native.Nat.{_+_, _≤_, _<_};
 ghost use lib.ListN.{length};
 ghost use Rattle.rules.specs.Walks.{sideLimit};
 ghost use Rattle.rules.specs.Chain.{climb, topSteps, turned, along, stepLimit};
-ghost use Rattle.index.specs.Asked.{asked};
+ghost use Rattle.index.specs.Asked.{asked, askedOn};
 ghost use Rattle.walks.specs.Sides.{named};
 ghost use Rattle.walks.specs.Routes.{routeOf};
 ghost use Rattle.chain.specs.StepList.{stepNumbers, stepsIn};
@@ -110,9 +110,10 @@ fn add_top(
     credited: u16,
     steps: &mut [u16],
     count: usize,
+    day: u16,
 ) -> usize
     requires { ⌜ count < sideLimit ⌝ }
-    ensures { λ r. ⌜ Adds (now (steps .entry)) count (topSteps (asked (now (index .entry))) security join from to debited credited) (now (steps .exit)) r ⌝ }
+    ensures { λ r. ⌜ Adds (now (steps .entry)) count (topSteps (askedOn (now (index .entry)) day) security join from to debited credited) (now (steps .exit)) r ⌝ }
     ensures { λ r. ⌜ r ≤ sideLimit + 1 ⌝ }
 {
     match join {
@@ -129,8 +130,8 @@ fn add_top(
             count + 1
         }
         Join::Issuers => {
-            let taken = issuance_of(index, security, from);
-            let given = issuance_of(index, security, to);
+            let taken = issuance_of(index, security, from, day);
+            let given = issuance_of(index, security, to, day);
             put_step(
                 steps,
                 count,
@@ -189,9 +190,10 @@ pub(crate) fn steps_along(
     receiving: u16,
     route: RouteFound,
     steps: &mut [u16],
+    day: u16,
 ) -> Found
     requires { ⌜ length (now steps) ≡ stepNumbers ⌝ }
-    ensures { λ r. ⌜ FoundIn (now (steps .entry)) (now (steps .exit)) (along (asked (now (index .entry))) security delivering receiving (routeOf route)) r ⌝ }
+    ensures { λ r. ⌜ FoundIn (now (steps .entry)) (now (steps .exit)) (along (askedOn (now (index .entry)) day) security delivering receiving (routeOf route)) r ⌝ }
 {
     if route.refusal != 0 {
         return Found {
@@ -224,6 +226,7 @@ pub(crate) fn steps_along(
         down.account,
         steps,
         up.count,
+        day,
     );
     let count = add_turned(steps, top, &downwards, down.count);
     Found { refusal: 0, count }

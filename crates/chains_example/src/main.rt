@@ -1,6 +1,7 @@
 // Document 01's chains by example, by the desk's functions alone. A drawing has a link for each three bytes: `A>C` is a default link, `A~B` an
 // alternative, `I=I` an issuer.
 use desk::empty;
+use examples::DAY;
 use examples::after;
 use examples::csd;
 use examples::link;
@@ -147,7 +148,7 @@ fn half(account: u16, counterpart: u8) -> rules::Half {
 fn show(letter: u8, drawing: &[u8]) {
     let to = csd_of(letter);
     let receiving = half(3 * (to as u16) + 1, 0);
-    let reply = desk::derive_by_value(drawn(drawing), half(0, to), receiving);
+    let reply = desk::derive_by_value(drawn(drawing), half(0, to), receiving, DAY);
     let answer = reply.answer;
     let ends = [b'A', b' ', b't', b'o', b' ', letter, b',', b' '];
     put(&ends);

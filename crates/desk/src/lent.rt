@@ -47,12 +47,18 @@ fn finish(steps: &mut [Step], reply: Reply) -> Answer
     reply.answer
 }
 
-// Derives the chain of two halves, delivering first, and writes its K steps to the start of the lent list.
-pub fn derive(directory: Directory, steps: &mut [Step], delivering: Half, receiving: Half) -> Answer
-    ensures { λ r. ⌜ (r ≡ derivationOn directory (now (steps .entry)) (ordered delivering receiving) .answer)
-        × (now (steps .exit) ≡ derivationOn directory (now (steps .entry)) (ordered delivering receiving) .steps) ⌝ }
+// Derives the chain of two halves on a day, delivering first, and writes its K steps to the start of the lent list.
+pub fn derive(
+    directory: Directory,
+    steps: &mut [Step],
+    delivering: Half,
+    receiving: Half,
+    day: u16,
+) -> Answer
+    ensures { λ r. ⌜ (r ≡ derivationOn directory (now (steps .entry)) (ordered delivering receiving) day .answer)
+        × (now (steps .exit) ≡ derivationOn directory (now (steps .entry)) (ordered delivering receiving) day .steps) ⌝ }
 {
-    let reply = derive_reply(directory, steps.len(), delivering, receiving);
+    let reply = derive_reply(directory, steps.len(), delivering, receiving, day);
     finish(steps, reply)
 }
 
@@ -62,15 +68,16 @@ pub fn derive_sided(
     steps: &mut [Step],
     first: SidedHalf,
     second: SidedHalf,
+    day: u16,
 ) -> Answer
-    ensures { λ r. ⌜ (r ≡ derivationOn directory (now (steps .entry)) (sided first second) .answer)
-        × (now (steps .exit) ≡ derivationOn directory (now (steps .entry)) (sided first second) .steps) ⌝ }
+    ensures { λ r. ⌜ (r ≡ derivationOn directory (now (steps .entry)) (sided first second) day .answer)
+        × (now (steps .exit) ≡ derivationOn directory (now (steps .entry)) (sided first second) day .steps) ⌝ }
 {
-    let reply = derive_sided_reply(directory, steps.len(), first, second);
+    let reply = derive_sided_reply(directory, steps.len(), first, second, day);
     finish(steps, reply)
 }
 
-// Books two halves, delivering first, and writes the K steps of their chain to the start of the lent list.
+// Books two halves by the links of a day, delivering first, and writes the K steps of their chain to the start of the lent list.
 pub fn settle(
     directory: Directory,
     positions: &mut [i64],
@@ -78,14 +85,15 @@ pub fn settle(
     steps: &mut [Step],
     delivering: Half,
     receiving: Half,
+    day: u16,
 ) -> Answer
-    ensures { λ r. ⌜ (r ≡ settlementOn directory (now (positions .entry)) (now (cash .entry)) (now (steps .entry)) (ordered delivering receiving) .answer)
+    ensures { λ r. ⌜ (r ≡ settlementOn directory (now (positions .entry)) (now (cash .entry)) (now (steps .entry)) (ordered delivering receiving) day .answer)
         × (now (positions .exit)
-        ≡ settlementOn directory (now (positions .entry)) (now (cash .entry)) (now (steps .entry)) (ordered delivering receiving) .store .positions)
+        ≡ settlementOn directory (now (positions .entry)) (now (cash .entry)) (now (steps .entry)) (ordered delivering receiving) day .store .positions)
         × (now (cash .exit)
-        ≡ settlementOn directory (now (positions .entry)) (now (cash .entry)) (now (steps .entry)) (ordered delivering receiving) .store .cash)
+        ≡ settlementOn directory (now (positions .entry)) (now (cash .entry)) (now (steps .entry)) (ordered delivering receiving) day .store .cash)
         × (now (steps .exit)
-        ≡ settlementOn directory (now (positions .entry)) (now (cash .entry)) (now (steps .entry)) (ordered delivering receiving) .steps) ⌝ }
+        ≡ settlementOn directory (now (positions .entry)) (now (cash .entry)) (now (steps .entry)) (ordered delivering receiving) day .steps) ⌝ }
 {
     let reply = settle_reply(
         directory,
@@ -94,6 +102,7 @@ pub fn settle(
         steps.len(),
         delivering,
         receiving,
+        day,
     );
     finish(steps, reply)
 }
@@ -106,13 +115,14 @@ pub fn settle_sided(
     steps: &mut [Step],
     first: SidedHalf,
     second: SidedHalf,
+    day: u16,
 ) -> Answer
-    ensures { λ r. ⌜ (r ≡ settlementOn directory (now (positions .entry)) (now (cash .entry)) (now (steps .entry)) (sided first second) .answer)
+    ensures { λ r. ⌜ (r ≡ settlementOn directory (now (positions .entry)) (now (cash .entry)) (now (steps .entry)) (sided first second) day .answer)
         × (now (positions .exit)
-        ≡ settlementOn directory (now (positions .entry)) (now (cash .entry)) (now (steps .entry)) (sided first second) .store .positions)
-        × (now (cash .exit) ≡ settlementOn directory (now (positions .entry)) (now (cash .entry)) (now (steps .entry)) (sided first second) .store .cash)
-        × (now (steps .exit) ≡ settlementOn directory (now (positions .entry)) (now (cash .entry)) (now (steps .entry)) (sided first second) .steps) ⌝ }
+        ≡ settlementOn directory (now (positions .entry)) (now (cash .entry)) (now (steps .entry)) (sided first second) day .store .positions)
+        × (now (cash .exit) ≡ settlementOn directory (now (positions .entry)) (now (cash .entry)) (now (steps .entry)) (sided first second) day .store .cash)
+        × (now (steps .exit) ≡ settlementOn directory (now (positions .entry)) (now (cash .entry)) (now (steps .entry)) (sided first second) day .steps) ⌝ }
 {
-    let reply = settle_sided_reply(directory, positions, cash, steps.len(), first, second);
+    let reply = settle_sided_reply(directory, positions, cash, steps.len(), first, second, day);
     finish(steps, reply)
 }

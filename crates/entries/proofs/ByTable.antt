@@ -4,7 +4,7 @@ use mathlib.Core.Path.{_≡_}
 use mathlib.Core.Logic.{_≢_}
 use mathlib.Core.List.{List}
 use Rattle.rules.specs.Directory.{Rows}
-use Rattle.index.specs.Index.{Place, csdCount, securityCount, accountCount, pairCount, linkCount, typeAt, homeAt, kindAt, mirrorAt, omnibusAt, investorAt, technicalAt, servedAt, routeAt, issuanceAt, linkAt, Inside, indexOf}
+use Rattle.index.specs.Index.{Place, csdCount, securityCount, accountCount, pairCount, linkCount, typeAt, homeAt, kindAt, mirrorAt, omnibusAt, investorAt, technicalAt, servedAt, newestAt, linkAt, Inside, indexOf}
 use Rattle.entries.proofs.Stored.{Store, Apart}
 
 -- of the places that tell of CSDs
@@ -30,9 +30,8 @@ pub record OfPairs (P : Place → Type 0) : Type 0 where
 -- of links
 pub record OfLinks (P : Place → Type 0) : Type 0 where
   pub count : P linkCount
-  pub route : (s c : ℕ) → P (routeAt s c)
-  pub issuance : (s c : ℕ) → P (issuanceAt s c)
-  pub link : (s c t : ℕ) → P (linkAt s c t)
+  pub newest : (s c : ℕ) → P (newestAt s c)
+  pub link : (n f : ℕ) → P (linkAt n f)
 
 -- of all
 pub every-place : (P : Place → Type 0) → OfCsds P → P securityCount → OfAccounts P → OfPairs P → OfLinks P → (q : Place) → P q
@@ -49,9 +48,8 @@ every-place P c s a p l (omnibusAt n) = p .omnibus n
 every-place P c s a p l (investorAt n) = p .investor n
 every-place P c s a p l (technicalAt n) = p .technical n
 every-place P c s a p l (servedAt t n) = p .served t n
-every-place P c s a p l (routeAt n m) = l .route n m
-every-place P c s a p l (issuanceAt n m) = l .issuance n m
-every-place P c s a p l (linkAt n m t) = l .link n m t
+every-place P c s a p l (newestAt n m) = l .newest n m
+every-place P c s a p l (linkAt n f) = l .link n f
 
 -- ---- a place that is neither the count nor stored has the same number for both
 abbrev pub Same : Rows → Rows → Place → List Store → Place → Type 0
@@ -80,4 +78,4 @@ module _ (r r′ : Rows) (count : Place) (ss : List Store) where
       }
 
   pub same-links : r .links ≡ r′ .links → OfLinks (Same r r′ count ss)
-  same-links e = record { count = λ i o a. rw e; route = λ s c i o a. rw e; issuance = λ s c i o a. rw e; link = λ s c t i o a. rw e }
+  same-links e = record { count = λ i o a. rw e; newest = λ s c i o a. rw e; link = λ n f i o a. rw e }

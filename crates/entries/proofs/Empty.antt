@@ -6,7 +6,7 @@ use mathlib.Core.List.{[]}
 use mathlib.Core.Option.{Option, none}
 use lib.Dec.{eqb}
 use lib.ListN.{getD, replicate, length-replicate}
-use Rattle.rules.specs.Directory.{noAccount, hasIssuer, defaultLink, hasLinkTo}
+use Rattle.rules.specs.Directory.{noAccount}
 use Rattle.rules.specs.Entries.{emptyDirectory}
 use Rattle.rules.specs.Demands.{noRows}
 use Rattle.rules.proofs.Tables.{empty-sized, empty-rows, empty-sound}
@@ -27,7 +27,7 @@ no-duo a = go (eqb a noAccount)
     go false = refl
 
 nothing : (p : Place) → indexOf noRows p ≡ 0
-unfolding servedRow hasIssuer defaultLink hasLinkTo
+unfolding servedRow
 nothing =
     every-place (λ p. indexOf noRows p ≡ 0)
     (record { count = refl; type = λ c. refl })
@@ -41,7 +41,7 @@ nothing =
       technical = λ a. ap technicalCode (no-duo a);
       served = λ t a. refl;
     })
-    (record { count = refl; route = λ s c. refl; issuance = λ s c. refl; link = λ s c t. refl })
+    (record { count = refl; newest = λ s c. refl; link = λ n f. refl })
 
 zeros : (n k : ℕ) → _≡_ {A = ℕ} (getD (replicate n 0) k 0) 0
 zeros zero k = refl

@@ -11,7 +11,7 @@ use borrow.Author.Tests.{lt-ltb}
 use Rattle.rules.specs.declared.Pair.{Pair}
 use Rattle.rules.specs.declared.Directory.{Directory}
 use Rattle.rules.specs.Tests.{firstOf, find}
-use Rattle.rules.specs.Directory.{Rows, rowsOf, csdLimit, accountLimit, pairLimit, noAccount, external, uses, sameDuo, usesApart, serves, isServed, isApart}
+use Rattle.rules.specs.Directory.{Rows, onDay, rowsOf, csdLimit, accountLimit, pairLimit, noAccount, external, uses, sameDuo, usesApart, serves, isServed, isApart}
 use Rattle.rules.specs.Refusals.{SharesBoth}
 use Rattle.rules.specs.Entries.{pairRow, rowConditions, addRow, pairRefusal}
 use Rattle.rules.specs.Demands.{withRow}
@@ -46,24 +46,24 @@ stores x = duoStores x (x .mirror) (record { at = servedAt (x .technical) (x .se
 abbrev bothStores : Pair → List Store
 bothStores x = duoStores x (x .omnibus) (stores x)
 
-module _ (r : Rows) (x : Pair) (F : Facts r) (N : NewPair r (r .pairs) x) where
+module _ (r : Rows) (x : Pair) (F : Facts (onDay 0 r)) (N : NewPair r (r .pairs) x) where
   abbrev r′ : Rows
   r′ = withRow (pairRow x) r
 
   technical-small : x .technical < csdLimit
-  technical-small = csd-small r F (x .technical) (N .facts .technicalRow)
+  technical-small = csd-small (onDay 0 r) F (x .technical) (N .facts .technicalRow)
 
   mirror-small : x .mirror < accountLimit
-  mirror-small = books-small r F (x .mirror) (x .investor) (N .facts .mirrorBooks)
+  mirror-small = books-small (onDay 0 r) F (x .mirror) (x .investor) (N .facts .mirrorBooks)
 
   served-small : x .served < accountLimit
-  served-small = books-small r F (x .served) (x .investor) (N .facts .servedBooks)
+  served-small = books-small (onDay 0 r) F (x .served) (x .investor) (N .facts .servedBooks)
 
   omnibus-small : x .omnibus ≢ noAccount → x .omnibus < accountLimit
   omnibus-small ne =
       elim (bool-cases (external (r .csds) (x .technical))) [
         | inl h ↦ absurd (ne (N .facts .away h .alone))
-        | inr h ↦ books-small r F (x .omnibus) (x .technical) (N .facts .home h .omnibusBooks)
+        | inr h ↦ books-small (onDay 0 r) F (x .omnibus) (x .technical) (N .facts .home h .omnibusBooks)
       ]
 
   -- ---- what finds it
@@ -193,7 +193,7 @@ pub pair-added : (k : Kept) (d : Directory) (x : Pair) → Keeps k d → firstOf
 unfolding withPair withDuo pairRefusal
 pair-added k d x h ok =
     let r : Rows = rowsOf d in
-    let F : Facts r = facts (h .indexed) in
+    let F : Facts (onDay 0 r) = facts (h .indexed) in
     let N : NewPair r (r .pairs) x = accepted-pair r (r .pairs) x ok in
     let small : x .mirror < accountLimit = mirror-small r x F N in
     let names = same-names (k .names) r (withRow (pairRow x) r) refl refl (h .named) in

@@ -15,9 +15,9 @@ use Rattle.rules.specs.declared.Answer.{Answer}
 use Rattle.rules.specs.declared.Answer.the-variants.{Accepted, Refused}
 use Rattle.rules.specs.declared.Entered.{Entered}
 use Rattle.rules.specs.Tests.{firstOf}
-use Rattle.rules.specs.Directory.{rowsOf, csdLimit, securityLimit, noAccount}
+use Rattle.rules.specs.Directory.{rowsOf, csdLimit, securityLimit, linkLimit, noAccount}
 use Rattle.rules.specs.Entries.{Row, csdRow, securityRow, accountRow, pairRow, linkRow, csdConditions, securityConditions, accountConditions, pairConditions, linkConditions, rowConditions, addRow}
-use Rattle.index.specs.Index.{Indexed, Place, csdCount, securityCount, accountCount, pairCount, linkCount, placeOf, types, homes, kinds, mirrors, omnibuses, investors, technicals, served, routes, issuances, linked, issuerCode, numberAt, withNumber}
+use Rattle.index.specs.Index.{Indexed, Place, csdCount, securityCount, accountCount, pairCount, linkCount, placeOf, types, homes, kinds, mirrors, omnibuses, investors, technicals, served, newest, links, linkNumbers, numberAt, withNumber}
 use Rattle.index.specs.Asked.{read, asked}
 use Rattle.identifiers.specs.Names.{bicSize, isinSize, isins, bicIn, isinIn, withBytes, Named}
 
@@ -51,7 +51,7 @@ pairRefusalIn l x = firstOf (pairConditions (asked l) x)
 
 -- of a link
 unfoldable pub linkRefusalIn : List ℕ → Link → ℕ
-linkRefusalIn l x = firstOf (linkConditions (asked l) x)
+linkRefusalIn l x = firstOf (linkConditions (leb linkLimit (read l linkCount)) (asked l) x)
 
 -- of any row
 abbrev pub refusalIn : Kept → Row → ℕ
@@ -104,20 +104,21 @@ unfoldable pub withPair : Pair → List ℕ → List ℕ
 withPair x l =
     counted pairCount (withDuo x (x .omnibus) (withDuo x (x .mirror) (withNumber l (served + (x .served * csdLimit + x .technical)) (oneMore (x .mirror)))))
 
--- an issuer link's numbers, at the place of its security and CSD
-unfoldable pub withIssuer : ℕ → Link → List ℕ → List ℕ
-withIssuer at x l = withNumber (withNumber l (routes + at) issuerCode) (issuances + at) (x .account)
-
--- an investor link's: where a default link leads, and that the two are linked
-unfoldable pub withInvestor : ℕ → Link → List ℕ → List ℕ
-withInvestor at x l =
-    withNumber (cond (eqb (x .flag) 1) (withNumber l (routes + at) (x .technical + 1)) l) (linked + (at * csdLimit + x .technical)) 1
-
--- a link
+-- a link: its numbers behind those of the others, and it is the newest of its CSD for its security
 unfoldable pub withLink : Link → List ℕ → List ℕ
 withLink x l =
-    let at = x .security * csdLimit + x .csd in
-    counted linkCount (cond (eqb (x .kind) 0) (withIssuer at x l) (withInvestor at x l))
+    let n = numberAt l (placeOf linkCount) in
+    let cell = newest + (x .security * csdLimit + x .csd) in
+    let numbers =
+    withNumber (withNumber (withNumber (withNumber (withNumber (withNumber (withNumber l
+    (links + (n * linkNumbers + 0)) (numberAt l cell))
+    (links + (n * linkNumbers + 1)) (x .first))
+    (links + (n * linkNumbers + 2)) (x .last))
+    (links + (n * linkNumbers + 3)) (x .kind))
+    (links + (n * linkNumbers + 4)) (x .flag))
+    (links + (n * linkNumbers + 5)) (x .technical))
+    (links + (n * linkNumbers + 6)) (x .account) in
+    counted linkCount (withNumber numbers cell (oneMore n))
 
 -- any row
 abbrev pub withRowIn : Row → Kept → Kept

@@ -7,22 +7,28 @@ use crate::refusals::security_refusal;
 use identifiers::names::NAMES;
 use identifiers::names::put_bic;
 use identifiers::names::put_isin;
+use index::places::ACCOUNT;
 use index::places::ACCOUNT_COUNT;
 use index::places::CSD_COUNT;
+use index::places::FIRST;
+use index::places::FLAG;
 use index::places::HOMES;
 use index::places::INDEX;
 use index::places::INVESTORS;
-use index::places::ISSUANCES;
-use index::places::ISSUER;
+use index::places::KIND;
 use index::places::KINDS;
+use index::places::LAST;
 use index::places::LINK_COUNT;
-use index::places::LINKED;
+use index::places::LINK_NUMBERS;
+use index::places::LINK_ROWS;
 use index::places::MIRRORS;
+use index::places::NEWEST;
+use index::places::NEXT;
 use index::places::OMNIBUSES;
 use index::places::PAIR_COUNT;
-use index::places::ROUTES;
 use index::places::SECURITY_COUNT;
 use index::places::SERVED;
+use index::places::TECHNICAL;
 use index::places::TECHNICALS;
 use index::places::TYPES;
 use index::places::entry;
@@ -36,11 +42,11 @@ use rules::NO_ACCOUNT;
 use rules::Pair;
 use rules::Security;
 ghost use mathlib.Core.Path.{_≡_};
-ghost use Prim.Native.Nat.{_<_};
-ghost use Rattle.index.specs.Index.{csdCount, securityCount, placeOf, numberAt, withNumber};
+ghost use Prim.Native.Nat.{_+_, _*_, _<_};
+ghost use Rattle.index.specs.Index.{csdCount, securityCount, links, linkNumbers, placeOf, numberAt, withNumber};
 ghost use Rattle.entries.specs.Entered.{accountRefusalIn, pairRefusalIn, linkRefusalIn};
 ghost use Rattle.entries.specs.Entered.{oneMore, withCsd, withBic, withSecurity, withIsin, withAccount};
-ghost use Rattle.entries.specs.Entered.{withDuo, withPair, withIssuer, withInvestor, withLink};
+ghost use Rattle.entries.specs.Entered.{withDuo, withPair, withLink};
 ghost use Rattle.entries.specs.Entered.{answered, left, EntersCsd, EntersSecurity};
 
 // One more; a table's count and a pair's account are below the largest u16, which stays as it is.
@@ -119,36 +125,33 @@ pub fn add_pair(index: &mut [u16; INDEX], row: Pair)
     count_on(index, PAIR_COUNT);
 }
 
-// An issuer link's numbers, at the place of its security and CSD.
-fn add_issuer(index: &mut [u16; INDEX], place: usize, row: Link)
-    requires { ⌜ place < 10_000 ⌝ }
-    ensures { λ _. ⌜ now (index .exit) ≡ withIssuer place row (now (index .entry)) ⌝ }
+// A number of a link put.
+fn put_number(index: &mut [u16; INDEX], link: u16, number: usize, value: u16)
+    requires { ⌜ number < linkNumbers ⌝ }
+    ensures { λ _. ⌜ now (index .exit) ≡ withNumber (now (index .entry)) (links + (link * linkNumbers + number)) value ⌝ }
 {
-    store(index, ROUTES + place, ISSUER);
-    store(index, ISSUANCES + place, row.account);
+    store(
+        index,
+        LINK_ROWS + ((link as usize) * LINK_NUMBERS + number),
+        value,
+    );
 }
 
-// An investor link's numbers.
-fn add_investor(index: &mut [u16; INDEX], place: usize, row: Link)
-    requires { ⌜ place < 10_000 ⌝ }
-    ensures { λ _. ⌜ now (index .exit) ≡ withInvestor place row (now (index .entry)) ⌝ }
-{
-    if row.flag == 1 {
-        store(index, ROUTES + place, (row.technical as u16) + 1);
-    }
-    store(index, LINKED + (place * CSDS + (row.technical as usize)), 1);
-}
-
-// A link's numbers.
+// A link's numbers behind those of the others, and it is the newest of its CSD for its security.
 pub fn add_link(index: &mut [u16; INDEX], row: Link)
     ensures { λ _. ⌜ now (index .exit) ≡ withLink row (now (index .entry)) ⌝ }
 {
-    let place = (row.security as usize) * CSDS + (row.csd as usize);
-    if row.kind == 0 {
-        add_issuer(index, place, row);
-    } else {
-        add_investor(index, place, row);
-    }
+    let link = entry(index, LINK_COUNT);
+    let cell = NEWEST + ((row.security as usize) * CSDS + (row.csd as usize));
+    let next = entry(index, cell);
+    put_number(index, link, NEXT, next);
+    put_number(index, link, FIRST, row.first);
+    put_number(index, link, LAST, row.last);
+    put_number(index, link, KIND, row.kind as u16);
+    put_number(index, link, FLAG, row.flag as u16);
+    put_number(index, link, TECHNICAL, row.technical as u16);
+    put_number(index, link, ACCOUNT, row.account);
+    store(index, cell, one_more(link));
     count_on(index, LINK_COUNT);
 }
 

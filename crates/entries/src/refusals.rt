@@ -1,15 +1,14 @@
-// Whether a row may be entered after the rows before it: the refusals 5 to 11 of document 01, the first that applies, 0 for none.
+// Whether a row may be entered after the rows before it: the refusals 5 to 11 and 24 of the documents, the first that applies, 0 for none.
 use identifiers::check_digit::isin_checks;
 use identifiers::forms::is_bic;
 use identifiers::forms::is_isin;
 use identifiers::names::NAMES;
 use identifiers::names::bic_entered;
 use identifiers::names::isin_entered;
+use index::links::Wanted;
+use index::links::day_after_default;
+use index::links::meets_link;
 use index::lookups::accounts_full;
-use index::lookups::has_investor;
-use index::lookups::has_issuer;
-use index::lookups::has_link;
-use index::lookups::has_link_to;
 use index::lookups::is_account;
 use index::lookups::is_account_of;
 use index::lookups::is_apart;
@@ -42,7 +41,7 @@ ghost use mathlib.Core.Bool.{cond};
 ghost use lib.Dec.{eqb};
 ghost use Rattle.rules.specs.Entries.{secondUnknown, wrongAccounts, wrongServed, pairUnknown, sharing, pairEntered};
 ghost use Rattle.rules.specs.Entries.{technicalUnknown, accountUnknown, linkUnknown};
-ghost use Rattle.rules.specs.Entries.{technicalEntered, wrongIssuance, issuerBroken, flagBroken, alternativeOutside, investorBroken};
+ghost use Rattle.rules.specs.Entries.{technicalEntered, wrongIssuance, issuerBroken, defaultEachDay, flagBroken, alternativeOutside, investorBroken};
 ghost use Rattle.index.specs.Asked.{asked};
 ghost use Rattle.entries.specs.Entered.{csdRefusalIn, securityRefusalIn, accountRefusalIn, pairRefusalIn, linkRefusalIn};
 
@@ -205,11 +204,11 @@ fn account_unknown(index: &[u16; INDEX], row: Link) -> bool
         & ((row.account != NO_ACCOUNT) | ((row.kind == 0) & !is_external(index, row.csd)))
 }
 
-// The CSD has this technical issuer for the security already; hex FF never counts.
+// The CSD has this technical issuer for the security already, on a day of the row; hex FF never counts.
 fn technical_entered(index: &[u16; INDEX], row: Link) -> bool
     ensures { λ r. ⌜ r ≡ technicalEntered (asked (now (index .entry))) row ⌝ }
 {
-    (row.technical != NO_CSD) & has_link_to(index, row.security, row.csd, row.technical)
+    (row.technical != NO_CSD) & meets_link(index, row, Wanted::Towards(row.technical))
 }
 
 // "An issuer link has .. an issuance account of its CSD"
@@ -220,23 +219,40 @@ fn wrong_issuance(index: &[u16; INDEX], row: Link) -> bool
         & (!is_external(index, row.csd) & !is_account_of(index, row.account, row.csd, ISSUANCE))
 }
 
-// An issuer link has FF, flag 1, FFFF if external; "that CSD has no other link for the security".
+// An issuer link has FF, flag 1, FFFF if external; "that CSD has no other link for the security", on any of its days.
 fn issuer_broken(index: &[u16; INDEX], row: Link) -> bool
     ensures { λ r. ⌜ r ≡ issuerBroken (asked (now (index .entry))) row ⌝ }
 {
     let account = is_external(index, row.csd) & (row.account != NO_ACCOUNT);
-    (row.technical != NO_CSD)
-        | ((row.flag != 1) | (account | has_link(index, row.security, row.csd)))
+    (row.technical != NO_CSD) | ((row.flag != 1) | (account | meets_link(index, row, Wanted::Any)))
 }
 
-// "A CSD's first investor link for a security has flag 1, later ones 0"
+// "an alternative needs a default on each of its days": on its first, then on the day after that default's last, and so on.
+fn default_each_day(index: &[u16; INDEX], row: Link) -> bool
+    ensures { λ r. ⌜ r ≡ defaultEachDay (asked (now (index .entry))) row ⌝ }
+{
+    let mut day = row.first as u32;
+    while day <= (row.last as u32) {
+        let next = day_after_default(index, row.security, row.csd, day as u16);
+        if next == 0 {
+            return false;
+        }
+        day = next;
+    }
+    true
+}
+
+// One default on each day, for a default link and for an alternative.
 fn flag_broken(index: &[u16; INDEX], row: Link) -> bool
     ensures { λ r. ⌜ r ≡ flagBroken (asked (now (index .entry))) row ⌝ }
 {
-    if has_investor(index, row.security, row.csd) {
-        return row.flag == 1;
+    if row.flag == 1 {
+        return meets_link(index, row, Wanted::Defaults);
     }
-    row.flag == 0
+    if row.flag == 0 {
+        return !default_each_day(index, row);
+    }
+    false
 }
 
 // "an alternative joins two CSDs in T2S"
@@ -246,11 +262,11 @@ fn alternative_outside(index: &[u16; INDEX], row: Link) -> bool
     (row.flag == 0) & (is_external(index, row.csd) | is_external(index, row.technical))
 }
 
-// "An investor link has another CSD as technical issuer and FFFF", and its CSD no issuer link for the security.
+// "An investor link has another CSD as technical issuer and FFFF", and its CSD no issuer link for the security on any of its days.
 fn investor_broken(index: &[u16; INDEX], row: Link) -> bool
     ensures { λ r. ⌜ r ≡ investorBroken (asked (now (index .entry))) row ⌝ }
 {
-    let issuer = has_issuer(index, row.security, row.csd);
+    let issuer = meets_link(index, row, Wanted::Issuers);
     let flag = flag_broken(index, row) | alternative_outside(index, row);
     (row.technical == row.csd) | ((row.account != NO_ACCOUNT) | (issuer | flag))
 }
@@ -274,7 +290,7 @@ fn link_unknown(index: &[u16; INDEX], row: Link) -> bool
     security | (csd | (technical_unknown(index, row) | account_unknown(index, row)))
 }
 
-// 05: of rows (6), kind and flag in their lists (7), another technical issuer (9), its issuance account (10), the rules of its kind (11).
+// 05: of rows (6), kind and flag in their lists (7), another technical issuer (9), its issuance account (10), its days (24), the rules of its kind (11).
 pub fn link_refusal(index: &[u16; INDEX], row: Link) -> u8
     ensures { λ r. ⌜ r ≡ linkRefusalIn (now (index .entry)) row ⌝ }
 {
@@ -292,6 +308,9 @@ pub fn link_refusal(index: &[u16; INDEX], row: Link) -> u8
     }
     if wrong_issuance(index, row) {
         return 10;
+    }
+    if row.last < row.first {
+        return 24;
     }
     if rule_broken(index, row) {
         return 11;

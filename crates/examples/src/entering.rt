@@ -15,6 +15,12 @@ ghost use Rattle.rules.specs.Stream.{bytes};
 ghost use Rattle.rules.specs.Entries.{csdRow, accountRow, pairRow, linkRow};
 ghost use Rattle.rules.specs.Outcomes.{enteredOn};
 
+// The links' last day: "01's example takes days 0 to 65,535 and day 0." (02)
+const LAST_DAY: u16 = 65_535;
+
+// The day of the calls.
+pub const DAY: u16 = 0;
+
 // A CSD by one byte of its BIC.
 pub fn csd(external: u8, byte: u8) -> Csd
     ensures { λ r. ⌜ r ≡ record { external = external; bic = set (bytes "AAAAXX00XXX") 7 byte } ⌝ }
@@ -36,9 +42,9 @@ pub fn pair(investor: u8, technical: u8, mirror: u16, omnibus: u16, served: u16)
     }
 }
 
-// A link for the one security.
+// A link for the one security, on every day.
 pub fn link(kind: u8, csd: u8, technical: u8, flag: u8, account: u16) -> Link
-    ensures { λ r. ⌜ r ≡ record { security = 0; kind = kind; csd = csd; technical = technical; flag = flag; account = account } ⌝ }
+    ensures { λ r. ⌜ r ≡ record { security = 0; kind = kind; csd = csd; technical = technical; flag = flag; account = account; first = 0; last = 0xffff } ⌝ }
 {
     Link {
         security: 0,
@@ -47,6 +53,8 @@ pub fn link(kind: u8, csd: u8, technical: u8, flag: u8, account: u16) -> Link
         technical,
         flag,
         account,
+        first: 0,
+        last: LAST_DAY,
     }
 }
 

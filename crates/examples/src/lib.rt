@@ -3,6 +3,7 @@
 mod printing; // printing.rt: words, numbers, steps and answers on standard output
 mod entering; // entering.rt: rows, and a directory with one of them entered
 
+pub use entering::DAY;
 pub use entering::after;
 pub use entering::csd;
 pub use entering::link;

@@ -1,31 +1,38 @@
 -- The answers of an index are the answers of its directory: one law for everybody who asks a list.
-use Prim.Native.Nat.{ℕ, _+_, _-_, _<_}
+use Prim.Native.Nat.{ℕ, zero, suc, _+_, _-_, _≤_, _<_}
 use mathlib.Core.Path.{_≡_, refl, sym, ap, _∙_}
+use mathlib.Core.Logic.{inl, inr}
 use mathlib.Core.Bool.{Bool, true, false, not, _&&_, cond, and-false, true≢false}
-use mathlib.Core.List.{List}
+use mathlib.Core.List.{List, [], _∷_, reverse, List·Memᴰ, List·Memᴰ·head, List·Memᴰ·tail}
 use mathlib.Core.Option.{Option, none, some}
 use native.Mathlib.Omega.{arith}
 use lib.Dec.{eqb, ltb, leb}
-use lib.ListN.{getElem?}
+use lib.ListN.{length, take, getElem?}
 use borrow.Author.Tests.{ltb-false, lt-ltb, le-ltb, lt-leb, ne-eqb}
 use Rattle.rules.specs.declared.Account.{Account}
 use Rattle.rules.specs.declared.Pair.{Pair}
 use Rattle.rules.specs.declared.Link.{Link}
 use Rattle.rules.specs.declared.Directory.{Directory}
-use Rattle.rules.specs.Tests.{isRow, isFull}
-use Rattle.rules.specs.Directory.{Rows, rowsOf, csdLimit, securityLimit, accountLimit, pairLimit, linkLimit, noAccount, external, isKind, inBooks, serves, sameDuo, pairOf, isServed, isApart, hasLink, hasIssuer, hasInvestor, hasLinkTo, defaultLink}
-use Rattle.rules.specs.Lookups.{ask, technicalOf, csdOf, homeOf, issuance}
-use Rattle.rules.proofs.Basics.{clash, and-true}
+use Rattle.rules.specs.Tests.{any, find, only, isRow, isFull}
+use Rattle.rules.specs.Directory.{Rows, rowsOf, csdLimit, securityLimit, accountLimit, pairLimit, linkLimit, noAccount, external, isKind, inBooks, serves, sameDuo, pairOf, isServed, isApart, noCsd, onDay, rowsOn, covers, issues, defaults, pointsTo, isLink, linksOf, linksFor, hasIssuer, hasLinkTo, issuerLink, defaultLink}
+use Rattle.rules.specs.Lookups.{ask, technicalOf, accountOf, csdOf, homeOf, issuance}
+use Rattle.rules.proofs.Basics.{impossible, clash, untrue, and-second, or-left, or-right, or-cases, eqb-is, find-some, find-none}
+use Rattle.rules.proofs.FirstRow.{none-found, only-found}
+use Rattle.rules.proofs.Facts.{Facts}
+use Rattle.rules.proofs.RowTests.{says-link, says-defaults}
+use Rattle.rules.proofs.Days.{in-reverse, in-links}
+use Rattle.rules.proofs.Accounts.{security-small}
+use Rattle.rules.proofs.Soundness.{sound-gives, sound-links, few-links}
 use Rattle.rules.proofs.Pairs.{found-pair}
-use Rattle.index.specs.Index.{Indexed, Place, csdCount, securityCount, accountCount, pairCount, linkCount, typeAt, homeAt, kindAt, mirrorAt, omnibusAt, investorAt, technicalAt, servedAt, routeAt, issuanceAt, linkAt, indexOf, typeCode, homeCode, duoOf, servedRow, mirrorCode, omnibusCode, investorCode, technicalCode, defaultCode, issuerCode}
-use Rattle.index.specs.Asked.{IndexAnswers, has, read, homeBy, booksIn, pairBy, duoIs, onwardBy, asked}
+use Rattle.index.specs.Index.{Indexed, Place, csdCount, securityCount, accountCount, pairCount, linkCount, typeAt, homeAt, kindAt, mirrorAt, omnibusAt, investorAt, technicalAt, servedAt, newestAt, linkAt, linkNumbers, newestCode, numberOf, linkCode, indexOf, typeCode, homeCode, duoOf, servedRow, mirrorCode, omnibusCode, investorCode, technicalCode}
+use Rattle.index.specs.Asked.{IndexAnswers, has, read, homeBy, booksIn, pairBy, duoIs, linksAt, linksOn, leads, asIssuer, asDefault, isThere, askedBy}
 use Rattle.index.proofs.Laws.{unknown}
 use Rattle.index.proofs.Found.{any-found, any-missing}
 use Rattle.index.proofs.Read.{read-in, read-off, not-both, inside}
 use Rattle.index.proofs.Standing.{number-at}
-use Rattle.index.proofs.LookingUp.{facts, row-coded, next-tests, type-told, books-told, kind-told, flag-told, home-small}
+use Rattle.index.proofs.LookingUp.{facts, row-coded, next-tests, type-told, books-told, kind-told, csd-small, home-small}
 use Rattle.index.proofs.PairReading.{found-served, apartBy, apart-by, unpaired, unserved, beside, triplet-row, no-triplet}
-use Rattle.index.proofs.LinkReading.{no-issuance, default-investor, issuer-link, investor-link, technical-small, unlinked, issuer-alone, no-link, no-issuer, no-route, first-is-default}
+use Rattle.index.proofs.LinkList.{links-on, walked-all}
 
 -- ---- from a code to the answer
 home-by : (o : Option Account) → ((x : Account) → o ≡ some x → x .csd < csdLimit) → homeBy (homeCode o) ≡ csdOf o
@@ -45,40 +52,126 @@ duo-by x p =
     turned false true = refl
     turned false false = refl
 
--- What a CSD's links for a security are, by the code that the index has.
-data Route (ls : List Link) (s c : ℕ) : ℕ → Type 0 where
-  atIssuer : hasIssuer ls s c ≡ true → hasInvestor ls s c ≡ false → hasLink ls s c ≡ true → defaultLink ls s c ≡ none → Route ls s c issuerCode
-  onwards : (k : Link) → hasIssuer ls s c ≡ false → hasInvestor ls s c ≡ true → hasLink ls s c ≡ true → defaultLink ls s c ≡ some k → k .technical < csdLimit
-      → Route ls s c (k .technical + 1)
-  nowhere : hasIssuer ls s c ≡ false → hasInvestor ls s c ≡ false → hasLink ls s c ≡ false → defaultLink ls s c ≡ none → Route ls s c 0
+-- ---- the issuer link and the default link
 
-module _ {ls : List Link} {s c : ℕ} where
-  any-by : {n : ℕ} → Route ls s c n → not (eqb n 0) ≡ hasLink ls s c
-  any-by (atIssuer e i a f) = sym a
-  any-by (onwards k e i a f t) = rw (ne-eqb (k .technical + 1) 0 (λ q. omega (arith, q))) (sym a)
-  any-by (nowhere e i a f) = sym a
+-- whether there is an issuer link
+some-issuer : (ls : List Link) (s c : ℕ) → isThere (issuerLink ls s c) ≡ hasIssuer ls s c
+unfolding issuerLink hasIssuer
+some-issuer ls s c = go (find issues (linksFor ls s c)) refl
+  where
+    go : (o : Option Link) → find issues (linksFor ls s c) ≡ o → isThere o ≡ any issues (linksFor ls s c)
+    go none e = any-missing issues (linksFor ls s c) e
+    go (some x) e = any-found issues (linksFor ls s c) x e
 
-  issuer-by : {n : ℕ} → Route ls s c n → leb issuerCode n ≡ hasIssuer ls s c
-  issuer-by (atIssuer e i a f) = sym e
-  issuer-by (onwards k e i a f t) = rw (lt-leb issuerCode (k .technical + 1) (omega arith)) (sym e)
-  issuer-by (nowhere e i a f) = sym e
+-- of a CSD's links for a security on a day one leads at most
+module _ (r : Rows) (F : Facts r) (s c : ℕ) where
+  abbrev ls : List Link
+  ls = linksFor (r .links) s c
 
-  investor-by : {n : ℕ} → Route ls s c n → (not (eqb n 0) && ltb n issuerCode) ≡ hasInvestor ls s c
-  investor-by (atIssuer e i a f) = sym i
-  investor-by (onwards k e i a f t) = rw (ne-eqb (k .technical + 1) 0 (λ q. omega (arith, q)), lt-ltb (k .technical + 1) issuerCode (omega arith)) (sym i)
-  investor-by (nowhere e i a f) = sym i
+  one-issuer : (x y : Link) → List·Memᴰ x ls → List·Memᴰ y ls → issues x ≡ true → x ≡ y
+  one-issuer x y m n e =
+      let h = in-links (r .links) s c x m in
+      let g = in-links (r .links) s c y n in
+      F .oneIssuer x y (h .entered) (g .entered) (eqb-is (x .kind) 0 e) (h .security ∙ sym (g .security)) (h .csd ∙ sym (g .csd))
 
-  onward-by : {n : ℕ} → Route ls s c n → onwardBy n ≡ technicalOf (defaultLink ls s c)
-  onward-by (atIssuer e i a f) = rw f
-  onward-by (onwards k e i a f t) =
-      let m : k .technical + 1 - 1 ≡ k .technical = omega arith in
-      rw (f, ne-eqb (k .technical + 1) 0 (λ q. omega (arith, q)), lt-leb issuerCode (k .technical + 1) (omega arith), m)
-  onward-by (nowhere e i a f) = rw f
+  one-default : (x y : Link) → List·Memᴰ x ls → List·Memᴰ y ls → defaults x ≡ true → defaults y ≡ true → x ≡ y
+  one-default x y m n e f =
+      let h = in-links (r .links) s c x m in
+      let g = in-links (r .links) s c y n in
+      let a = says-defaults x .holds e in
+      let b = says-defaults y .holds f in
+      F .oneDefault x y (h .entered) (g .entered) (a .0) (b .0) (a .1) (b .1) (h .security ∙ sym (g .security)) (h .csd ∙ sym (g .csd))
+
+  -- an issuer link is no default link
+  neither : (x : Link) → issues x ≡ true → defaults x ≡ true → ⊥
+  neither x e f = let a : x .kind ≡ 0 = eqb-is (x .kind) 0 e in let b : x .kind ≡ 1 = says-defaults x .holds f .0 in omega arith
+
+  -- none is found, or an issuer link, or a default link
+  lead-issuer : asIssuer (find leads ls) ≡ issuerLink (r .links) s c
+  unfolding issuerLink
+  lead-issuer = go (find leads ls) refl
+    where
+      go : (o : Option Link) → find leads ls ≡ o → asIssuer o ≡ find issues ls
+      go none e = sym (none-found issues ls (λ x m i. clash (leads x) (or-left (issues x) (defaults x) i) (find-none leads ls e x m)))
+      go (some x) e = let f = find-some leads ls x e in at x (f .0) (issues x) refl
+        where
+          at : (x : Link) → List·Memᴰ x ls → (b : Bool) → issues x ≡ b → cond b (some x) none ≡ find issues ls
+          at x m true i = sym (only-found issues ls x m i (λ y n j. sym (one-issuer x y m n i)))
+          at x m false i = sym (none-found issues ls (λ y n j. clash (issues x) (rw (sym (one-issuer y x n m j)) j) i))
+
+  lead-default : asDefault (find leads ls) ≡ defaultLink (r .links) s c
+  unfolding defaultLink
+  lead-default = go (find leads ls) refl
+    where
+      go : (o : Option Link) → find leads ls ≡ o → asDefault o ≡ find defaults ls
+      go none e = sym (none-found defaults ls (λ x m i. clash (leads x) (or-right (issues x) (defaults x) i) (find-none leads ls e x m)))
+      go (some x) e = let f = find-some leads ls x e in at x (f .0) (f .1) (issues x) refl
+        where
+          at : (x : Link) → List·Memᴰ x ls → leads x ≡ true → (b : Bool) → issues x ≡ b → cond b none (some x) ≡ find defaults ls
+          at x m p true i = sym (none-found defaults ls (λ y n j. neither y (rw (← (one-issuer x y m n i)) i) j))
+          at x m p false i =
+              let d : defaults x ≡ true = elim (or-cases (issues x) (defaults x) p) [ inl z ↦ clash (issues x) z i | inr z ↦ z ] in
+              sym (only-found defaults ls x m d (λ y n j. one-default y x n m j d))
+
+-- ---- links beyond the places
+no-number : (next : ℕ) (x : Link) (f : ℕ) → linkNumbers ≤ f → numberOf next x f ≡ 0
+no-number next x zero h = absurd (omega arith)
+no-number next x (suc zero) h = absurd (omega arith)
+no-number next x (suc (suc zero)) h = absurd (omega arith)
+no-number next x (suc (suc (suc zero))) h = absurd (omega arith)
+no-number next x (suc (suc (suc (suc zero)))) h = absurd (omega arith)
+no-number next x (suc (suc (suc (suc (suc zero))))) h = absurd (omega arith)
+no-number next x (suc (suc (suc (suc (suc (suc zero)))))) h = absurd (omega arith)
+no-number next x (suc (suc (suc (suc (suc (suc (suc f))))))) h = refl
+
+no-link : (s c : ℕ) (ls : List Link) → ((k : Link) → List·Memᴰ k ls → (k .security < securityLimit) × (k .csd < csdLimit))
+    → (s < securityLimit → c < csdLimit → ⊥) → newestCode s c ls ≡ 0
+no-link s c [] small n = refl
+no-link s c (x ∷ ls) small n = rw other (no-link s c ls (λ k m. small k (List·Memᴰ·tail m)) n)
+  where
+    other : isLink s c x ≡ false
+    other = untrue (isLink s c x) (λ e. let p = says-link s c x .holds e in let t = small x (List·Memᴰ·head refl) in n (rw (p .0) at (t .0)) (rw (p .1) at (t .1)))
+
+row-within : (ls : List Link) (n : ℕ) (x : Link) → getElem? ls n ≡ some x → n < length ls
+row-within [] n x e = impossible (cc)
+row-within (y ∷ ls) zero x e = omega arith
+row-within (y ∷ ls) (suc n) x e = let l : n < length ls = row-within ls n x e in omega arith
 
 -- ---- the index of a directory
 module _ {l : List ℕ} {d : Directory} (h : Indexed l d) where
   abbrev r : Rows
   r = rowsOf d
+
+  -- CSDs, accounts and pairs are the same on every day
+  abbrev q : Rows
+  q = rowsOn 0 d
+
+  -- these rows with other links
+  abbrev seeing : List Link → Rows
+  seeing ls = record { csds = r .csds; securities = r .securities; accounts = r .accounts; pairs = r .pairs; links = ls }
+
+  -- links name rows
+  linked-small : (k : Link) → List·Memᴰ k (r .links) → (k .security < securityLimit) × (k .csd < csdLimit)
+  linked-small k m =
+      let f = sound-links d (h .soundBooks) k m in
+      (security-small q (facts h) (k .security) (f .securityRow), csd-small q (facts h) (k .csd) (f .csdRow))
+
+  technical-small : (k : Link) → List·Memᴰ k (r .links) → k .technical ≤ 0xff
+  technical-small k m =
+      let f = sound-links d (h .soundBooks) k m in
+      elim (f .kind) [
+        | inl z ↦ let e : k .technical ≡ noCsd = f .issuer z .technical in omega arith
+        | inr z ↦ omega (arith, csd-small q (facts h) (k .technical) (f .investor z .technicalRow))
+      ]
+
+  beyond-link : (n f : ℕ) → has (linkAt n f) ≡ false → 0 ≡ linkCode (reverse (take n (r .links))) (getElem? (r .links) n) f
+  beyond-link n f e = go (getElem? (r .links) n) refl
+    where
+      go : (o : Option Link) → getElem? (r .links) n ≡ o → 0 ≡ linkCode (reverse (take n (r .links))) o f
+      go none g = refl
+      go (some x) g = sym (no-number (newestCode (x .security) (x .csd) (reverse (take n (r .links)))) x f
+          (ltb-false f linkNumbers (and-second (ltb n linkLimit) (ltb f linkNumbers) e
+          (lt-ltb n linkLimit (omega (arith, few-links d (h .soundBooks), row-within (r .links) n x g))))))
 
   -- beyond it the directory has nothing
   beyond : (p : Place) → has p ≡ false → 0 ≡ indexOf r p
@@ -90,15 +183,13 @@ module _ {l : List ℕ} {d : Directory} (h : Indexed l d) where
   beyond (typeAt c) e = rw (unknown (r .csds) c (omega (arith, facts h .fewCsds, ltb-false c csdLimit e)))
   beyond (homeAt a) e = rw (unknown (r .accounts) a (omega (arith, facts h .fewAccounts, ltb-false a accountLimit e)))
   beyond (kindAt a) e = rw (unknown (r .accounts) a (omega (arith, facts h .fewAccounts, ltb-false a accountLimit e)))
-  beyond (mirrorAt a) e = rw (unpaired r (facts h) a (ltb-false a accountLimit e))
-  beyond (omnibusAt a) e = rw (unpaired r (facts h) a (ltb-false a accountLimit e))
-  beyond (investorAt a) e = rw (unpaired r (facts h) a (ltb-false a accountLimit e))
-  beyond (technicalAt a) e = rw (unpaired r (facts h) a (ltb-false a accountLimit e))
-  beyond (servedAt t a) e = rw (unserved r (facts h) t a (not-both t a csdLimit accountLimit e))
-  beyond (routeAt s c) e = no-route r s c (facts h) (not-both s c securityLimit csdLimit e)
-  beyond (issuanceAt s c) e = rw (no-issuer r s c (facts h) (not-both s c securityLimit csdLimit e))
-  beyond (linkAt s c t) e =
-      rw (unlinked r s c (facts h) t (λ f g k. clash (has (linkAt s c t)) (and-true (ltb s securityLimit) (ltb c csdLimit && ltb t csdLimit) (lt-ltb s securityLimit f) (and-true (ltb c csdLimit) (ltb t csdLimit) (lt-ltb c csdLimit g) (lt-ltb t csdLimit k))) e))
+  beyond (mirrorAt a) e = rw (unpaired q (facts h) a (ltb-false a accountLimit e))
+  beyond (omnibusAt a) e = rw (unpaired q (facts h) a (ltb-false a accountLimit e))
+  beyond (investorAt a) e = rw (unpaired q (facts h) a (ltb-false a accountLimit e))
+  beyond (technicalAt a) e = rw (unpaired q (facts h) a (ltb-false a accountLimit e))
+  beyond (servedAt t a) e = rw (unserved q (facts h) t a (not-both t a csdLimit accountLimit e))
+  beyond (newestAt s c) e = sym (no-link s c (reverse (r .links)) (λ k m. linked-small k (in-reverse (r .links) k m)) (not-both s c securityLimit csdLimit e))
+  beyond (linkAt n f) e = beyond-link n f e
 
   -- what is read is the directory's
   pub reads : (p : Place) → read l p ≡ indexOf r p
@@ -107,23 +198,6 @@ module _ {l : List ℕ} {d : Directory} (h : Indexed l d) where
       go : (b : Bool) → has p ≡ b → read l p ≡ indexOf r p
       go true e = sym (read-in l p e) ∙ (number-at l p (inside p e) ∙ h .at p (inside p e))
       go false e = sym (read-off l p e) ∙ beyond p e
-
-  -- links
-  route : (s c : ℕ) → Route (r .links) s c (read l (routeAt s c))
-  route s c = rw (reads (routeAt s c)) (go (hasIssuer (r .links) s c) (defaultLink (r .links) s c) refl refl)
-    where
-      go : (b : Bool) (o : Option Link) → hasIssuer (r .links) s c ≡ b → defaultLink (r .links) s c ≡ o → Route (r .links) s c (cond b issuerCode (defaultCode o))
-      go true none e f = atIssuer e (issuer-alone r s c (facts h) e) (issuer-link r s c e) f
-      go true (some k) e f = clash (hasInvestor (r .links) s c) (default-investor r s c k f) (issuer-alone r s c (facts h) e)
-      go false none e f = let n = first-is-default h s c f in nowhere e n (no-link r s c (facts h) e n) f
-      go false (some k) e f = let i = default-investor r s c k f in onwards k e i (investor-link r s c i) f (technical-small r s c (facts h) k f)
-
-  issuing-told : (s c : ℕ) → cond (leb issuerCode (read l (routeAt s c))) (read l (issuanceAt s c)) noAccount ≡ issuance (r .links) s c
-  issuing-told s c = rw (issuer-by (route s c), reads (issuanceAt s c)) (go (hasIssuer (r .links) s c) refl)
-    where
-      go : (b : Bool) → hasIssuer (r .links) s c ≡ b → cond b (cond b (issuance (r .links) s c) 0) noAccount ≡ issuance (r .links) s c
-      go true e = refl
-      go false e = no-issuance r s c e
 
   -- rows
   csd-told : (c : ℕ) → not (eqb (read l (typeAt c)) 0) ≡ isRow (r .csds) c
@@ -138,7 +212,7 @@ module _ {l : List ℕ} {d : Directory} (h : Indexed l d) where
 
   home-told : (a : ℕ) → homeBy (read l (homeAt a)) ≡ homeOf (r .accounts) a
   unfolding homeOf
-  home-told a = rw (reads (homeAt a)) (home-by (getElem? (r .accounts) a) (home-small r (facts h) a))
+  home-told a = rw (reads (homeAt a)) (home-by (getElem? (r .accounts) a) (home-small q (facts h) a))
 
   in-books : (a c : ℕ) → eqb (read l (homeAt a)) (c + 1) ≡ inBooks (r .accounts) a c
   unfolding inBooks
@@ -151,7 +225,7 @@ module _ {l : List ℕ} {d : Directory} (h : Indexed l d) where
   -- pairs
   apart-told : (a : ℕ) (x : Pair) → (not (eqb (read l (mirrorAt a)) 0) && not (duoIs l a x)) ≡ isApart (r .pairs) a x
   apart-told a x =
-      rw (reads (mirrorAt a), reads (omnibusAt a), reads (investorAt a), reads (technicalAt a), ← (apart-by r (facts h) a x)) (go (duoOf (r .pairs) a))
+      rw (reads (mirrorAt a), reads (omnibusAt a), reads (investorAt a), reads (technicalAt a), ← (apart-by q (facts h) a x)) (go (duoOf (r .pairs) a))
     where
       go : (o : Option Pair)
           → (not (eqb (mirrorCode o) 0)
@@ -165,8 +239,8 @@ module _ {l : List ℕ} {d : Directory} (h : Indexed l d) where
   row-told t a none e i b = refl
   row-told t a (some p) e i b =
       let f = found-served (r .pairs) t a p e in
-      let g = found-pair (r .pairs) i t a p (sym (triplet-row r (facts h) i t a b) ∙ e) in
-      let d = beside r (facts h) p (f .0) in
+      let g = found-pair (r .pairs) i t a p (sym (triplet-row q (facts h) i t a b) ∙ e) in
+      let d = beside q (facts h) p (f .0) in
       let m : p .mirror + 1 - 1 ≡ p .mirror = omega arith in
       rw (ne-eqb (p .mirror + 1) 0 (λ q. omega (arith, q)), m, reads (omnibusAt (p .mirror)), d .1, d .2, ← (g .1), ← (g .2), ← (g .3))
 
@@ -174,8 +248,8 @@ module _ {l : List ℕ} {d : Directory} (h : Indexed l d) where
   pair-told i t a = rw (in-books a i, reads (servedAt t a)) (go (inBooks (r .accounts) a i) refl)
     where
       go : (b : Bool) → inBooks (r .accounts) a i ≡ b → cond b (pairBy l i t a (mirrorCode (servedRow (r .pairs) t a))) none ≡ pairOf (r .pairs) i t a
-      go true e = row-told t a (servedRow (r .pairs) t a) refl i e ∙ triplet-row r (facts h) i t a e
-      go false e = sym (no-triplet r (facts h) i t a e)
+      go true e = row-told t a (servedRow (r .pairs) t a) refl i e ∙ triplet-row q (facts h) i t a e
+      go false e = sym (no-triplet q (facts h) i t a e)
 
   served-told : (i t a : ℕ) → (not (eqb (read l (servedAt t a)) 0) && booksIn l a i) ≡ isServed (r .pairs) i t a
   unfolding pairOf isServed
@@ -190,20 +264,32 @@ module _ {l : List ℕ} {d : Directory} (h : Indexed l d) where
       some-row (some p) q = rw (ne-eqb (p .mirror + 1) 0 (λ e. omega (arith, e))) (any-found (serves i t a) (r .pairs) p q)
 
       go : (b : Bool) → inBooks (r .accounts) a i ≡ b → (not (eqb (mirrorCode (servedRow (r .pairs) t a)) 0) && b) ≡ isServed (r .pairs) i t a
-      go true e = whole (not (eqb (mirrorCode (servedRow (r .pairs) t a)) 0)) ∙ rw (triplet-row r (facts h) i t a e) (some-row (pairOf (r .pairs) i t a) refl)
-      go false e = rw and-false (any-missing (serves i t a) (r .pairs) (no-triplet r (facts h) i t a e))
+      go true e = whole (not (eqb (mirrorCode (servedRow (r .pairs) t a)) 0)) ∙ rw (triplet-row q (facts h) i t a e) (some-row (pairOf (r .pairs) i t a) refl)
+      go false e = rw and-false (any-missing (serves i t a) (r .pairs) (no-triplet q (facts h) i t a e))
 
-  linked-told : (s c t : ℕ) → not (eqb (read l (linkAt s c t)) 0) ≡ hasLinkTo (r .links) s c t
-  linked-told s c t = rw (reads (linkAt s c t)) (flag-told (hasLinkTo (r .links) s c t))
+  -- links
+  links-told : (s c : ℕ) → linksAt l s c ≡ linksFor (r .links) s c
+  links-told s c = rw (reads (newestAt s c)) (walked-all l (r .links) (λ n f. reads (linkAt n f)) technical-small (few-links d (h .soundBooks)) s c)
+
+  issuer-of : (s c : ℕ) → find issues (linksAt l s c) ≡ issuerLink (r .links) s c
+  unfolding issuerLink
+  issuer-of s c = ap (find issues) (links-told s c)
+
+  default-of : (s c : ℕ) → find defaults (linksAt l s c) ≡ defaultLink (r .links) s c
+  unfolding defaultLink
+  default-of s c = ap (find defaults) (links-told s c)
+
+  links-on-told : (day s c : ℕ) → only (covers day) (linksAt l s c) ≡ linksFor (linksOf day (r .links)) s c
+  links-on-told day s c = ap (only (covers day)) (links-told s c) ∙ sym (links-on day (r .links) s c)
 
   -- all of them
-  told : asked l ≡ ask r
-  unfolding asked isFull isRow
-  told = λ i.
+  told : (links : ℕ → ℕ → List Link) (issuer default : ℕ → ℕ → Option Link) (seen : List Link) → ((s c : ℕ) → links s c ≡ linksFor seen s c)
+      → ((s c : ℕ) → issuer s c ≡ issuerLink seen s c) → ((s c : ℕ) → default s c ≡ defaultLink seen s c) → askedBy links issuer default l ≡ ask (seeing seen)
+  unfolding askedBy isFull isRow hasLinkTo issuance
+  told links issuer default seen e f g = λ i.
       record {
         accountsFull = ap (leb accountLimit) (reads accountCount) i;
         pairsFull = ap (leb pairLimit) (reads pairCount) i;
-        linksFull = ap (leb linkLimit) (reads linkCount) i;
         csd = λ c. csd-told c i;
         security = λ s. ap (ltb s) (reads securityCount) i;
         account = λ a. account-told a i;
@@ -214,13 +300,31 @@ module _ {l : List ℕ} {d : Directory} (h : Indexed l d) where
         apart = λ a x. apart-told a x i;
         pair = λ j t a. pair-told j t a i;
         served = λ j t a. served-told j t a i;
-        anyLink = λ s c. any-by (route s c) i;
-        issuer = λ s c. issuer-by (route s c) i;
-        investor = λ s c. investor-by (route s c) i;
-        issuing = λ s c. issuing-told s c i;
-        onward = λ s c. onward-by (route s c) i;
-        linked = λ s c t. linked-told s c t i;
+        links = λ s c. e s c i;
+        issuer = λ s c. (ap isThere (f s c) ∙ some-issuer seen s c) i;
+        issuing = λ s c. accountOf (f s c i);
+        onward = λ s c. technicalOf (g s c i);
+        linked = λ s c t. any (pointsTo t) (e s c i);
       }
 
+  -- on a day the issuer link or default link that is found is the only one
+  module _ (day s c : ℕ) where
+    abbrev seen : List Link
+    seen = linksFor (linksOf day (r .links)) s c
+
+    issuer-led : asIssuer (find leads (linksOn l day s c)) ≡ issuerLink (linksOf day (r .links)) s c
+    issuer-led = ap (λ (ls : List Link). asIssuer (find leads ls)) (links-on-told day s c) ∙ lead-issuer (onDay day r) (sound-gives d (h .soundBooks) day) s c
+
+    default-led : asDefault (find leads (linksOn l day s c)) ≡ defaultLink (linksOf day (r .links)) s c
+    default-led = ap (λ (ls : List Link). asDefault (find leads ls)) (links-on-told day s c) ∙ lead-default (onDay day r) (sound-gives d (h .soundBooks) day) s c
+
 pub answers : IndexAnswers
-answers l d h = told h
+answers =
+    record {
+      ever = λ l d h.
+          told h (linksAt l) (λ s c. find issues (linksAt l s c)) (λ s c. find defaults (linksAt l s c)) (rowsOf d .links) (links-told h)
+          (λ s c. issuer-of h s c) (λ s c. default-of h s c);
+      daily = λ l d h day.
+          told h (linksOn l day) (λ s c. asIssuer (find leads (linksOn l day s c))) (λ s c. asDefault (find leads (linksOn l day s c))) (rowsOn day d .links)
+          (links-on-told h day) (issuer-led h day) (default-led h day);
+    }

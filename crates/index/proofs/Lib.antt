@@ -6,4 +6,5 @@ pub mod Standing
 pub mod LookingUp
 pub mod PairReading
 pub mod LinkReading
+pub mod LinkList
 pub mod Answers

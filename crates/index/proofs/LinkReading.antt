@@ -1,160 +1,185 @@
--- What a number of the index tells of links, and that a sound directory has none beyond the index's places; a CSD's first investor link is its default.
-use Prim.Native.Nat.{ℕ, _+_, _<_}
+-- A search of the links that a list of numbers has from a code on is the search of its definitions; and searches of the links of a day.
+use Prim.Native.Nat.{ℕ, zero, suc, _+_, _-_, _≤_}
 use mathlib.Core.Path.{_≡_, refl, sym, ap, _∙_}
-use mathlib.Core.Logic.{_≢_, inl, inr}
-use mathlib.Core.Bool.{true, false, cond}
-use mathlib.Core.List.{List, [], _∷_, _++_, List·Memᴰ, append-nil}
+use mathlib.Core.Logic.{_≢_}
+use mathlib.Core.Bool.{Bool, true, false, not, _&&_, _||_, cond}
+use mathlib.Core.List.{List, [], _∷_}
 use mathlib.Core.Option.{Option, none, some}
 use native.Mathlib.Omega.{arith}
-use lib.Dec.{eqb}
-use lib.Seq.{append-snoc}
+use lib.Dec.{eqb, ltb, leb}
+use borrow.Author.Tests.{ne-eqb}
 use Rattle.rules.specs.declared.Link.{Link}
-use Rattle.rules.specs.declared.Directory.{Directory}
-use Rattle.rules.specs.Tests.{find, eachAfter}
-use Rattle.rules.specs.Directory.{Rows, rowsOf, csdLimit, securityLimit, noAccount, isLink, isIssuer, isInvestor, isDefault, hasLink, hasIssuer, hasInvestor, hasLinkTo, issuerLink, defaultLink}
-use Rattle.rules.specs.Entries.{linkRefusal, linksSound, withinLimits, soundRows, sound}
-use Rattle.rules.specs.Lookups.{accountOf, issuance}
-use Rattle.rules.proofs.Basics.{clash, untrue, and-both, and-true, eqb-is, eqb-true, eqb-not, any-true, any-some, any-none, none-any, find-some, find-none}
-use Rattle.rules.proofs.FirstRow.{FirstIn, none-found, found-first}
-use Rattle.rules.proofs.Facts.{Facts}
-use Rattle.rules.proofs.Accounts.{security-small}
-use Rattle.rules.proofs.InOrder.{accepts}
-use Rattle.rules.proofs.NewLinks.{NewLink, accepted-link}
-use Rattle.rules.proofs.SoundParts.{tables}
-use Rattle.rules.proofs.Links.{has-issuer, found-default, has-link-to}
-use Rattle.index.specs.Index.{Indexed, issuerCode, defaultCode}
-use Rattle.index.proofs.LookingUp.{facts, csd-small}
+use Rattle.rules.specs.Tests.{any, find, only}
+use Rattle.rules.specs.Directory.{linkLimit, covers}
+use Rattle.rules.specs.Entries.{hasDayIn}
+use Rattle.rules.proofs.Basics.{equal-tests, and-both, and-true, or-none, or-false, eqb-not, eqb-false, ltb-not, ltb-false, leb-is, leb-true}
+use Rattle.index.specs.declared.links.Wanted.{Wanted}
+use Rattle.index.specs.declared.links.Wanted.the-variants.{Any, Issuers, Defaults, Towards}
+use Rattle.index.specs.Index.{newestAt, linkAt}
+use Rattle.index.specs.Asked.{read, linkIn, endsAt, leads, linksFrom, linksAt, linksOn}
+use Rattle.index.specs.Found.{wants, codeFrom, foundIn, leadIn}
 
--- ---- rows accepted in order: each after those that stand before it
-at-turn : {A : Type 0} (refusal : List A → A → ℕ) (done before after : List A) (x : A)
-    → eachAfter (accepts refusal) done (before ++ (x ∷ after)) ≡ true → refusal (done ++ before) x ≡ 0
-at-turn refusal done [] after x e =
-    rw append-nil (eqb-is (refusal done x) 0 (and-both (accepts refusal done x) (eachAfter (accepts refusal) (done ++ (x ∷ [])) after) e .0))
-at-turn refusal done (y ∷ before) after x e =
-    rw append-snoc at
-    (at-turn refusal (done ++ (y ∷ [])) before after x
-    (and-both (accepts refusal done y) (eachAfter (accepts refusal) (done ++ (y ∷ [])) (before ++ (x ∷ after))) e .1))
+-- ---- from a code on
+-- the link of a code
+abbrev pub linkOf : List ℕ → ℕ → ℕ → ℕ → Option Link
+linkOf l s c zero = none
+linkOf l s c (suc n) = some (linkIn l s c n)
 
-link-told : (s c : ℕ) (l : Link) → isLink s c l ≡ true → (l .security ≡ s) × (l .csd ≡ c)
-link-told s c l e =
-    let b = and-both (eqb (l .security) s) (eqb (l .csd) c) e in
-    (eqb-is (l .security) s (b .0), eqb-is (l .csd) c (b .1))
+pub link-of : (l : List ℕ) (s c code : ℕ) → code ≢ 0 → linkOf l s c code ≡ some (linkIn l s c (code - 1))
+link-of l s c zero n = absurd (n refl)
+link-of l s c (suc m) n = let link : suc m - 1 ≡ m = omega arith in rw link
 
-module _ (r : Rows) (s c : ℕ) where
-  no-issuer-found : hasIssuer (r .links) s c ≡ false → issuerLink (r .links) s c ≡ none
-  unfolding hasIssuer issuerLink
-  no-issuer-found e = none-found (isIssuer s c) (r .links) (λ l m f. clash (isIssuer s c l) f (any-none (isIssuer s c) (r .links) e l m))
+-- where the list does not end, the code is that of a link
+pub goes-on : (code : ℕ) → endsAt code ≡ false → (1 ≤ code) × (code ≤ linkLimit)
+goes-on code e =
+    let h = or-none (eqb code 0) (ltb linkLimit code) e in
+    let n : code ≢ 0 = eqb-not code 0 (h .0) in
+    (omega arith, ltb-not linkLimit code (h .1))
 
-  pub no-issuance : hasIssuer (r .links) s c ≡ false → noAccount ≡ issuance (r .links) s c
-  unfolding issuance
-  no-issuance e = sym (ap accountOf (no-issuer-found e))
+pub goes : (code : ℕ) → 1 ≤ code → code ≤ linkLimit → endsAt code ≡ false
+goes code a b = or-false (eqb code 0) (ltb linkLimit code) (eqb-false code 0 (λ e. omega arith)) (ltb-false linkLimit code b)
 
-  -- ---- a CSD's first investor link is its default
-  module _ (inOrder : linksSound (r .csds) (r .securities) (r .accounts) (r .links) ≡ true) where
-    first-default : (l : Link) → FirstIn (isInvestor s c) (r .links) l → isDefault s c l ≡ true
-    unfolding linksSound hasInvestor
-    first-default l f =
-        let n : NewLink r (f .before) l =
-        accepted-link r (f .before) l (at-turn (linkRefusal (r .csds) (r .securities) (r .accounts)) [] (f .before) (f .after) l (rw (f .whole) at inOrder)) in
-        let b = and-both (isLink s c l) (eqb (l .kind) 1) (f .passes) in
-        let k : l .kind ≡ 1 = eqb-is (l .kind) 1 (b .1) in
-        let p = link-told s c l (b .0) in
-        let first : hasInvestor (f .before) (l .security) (l .csd) ≡ false = rw (p .0, p .1) (none-any (isInvestor s c) (f .before) (f .earlier)) in
-        let other : l .flag ≢ 0 = eqb-not (l .flag) 0 (rw first at (n .flagFits k)) in
-        let flag : l .flag ≡ 1 = elim (n .facts .investor k .flag) [ inl z ↦ absurd (other z) | inr o ↦ o ] in
-        and-true (isInvestor s c l) (eqb (l .flag) 1) (f .passes) (eqb-true (l .flag) 1 flag)
+module _ (l : List ℕ) (s c : ℕ) (p : Link → Bool) where
+  -- the link of the code that is found is the one that a search of the links finds
+  pub record Finds (ls : List Link) (code : ℕ) : Type 0 where
+    pub link : find p ls ≡ linkOf l s c code
+    pub there : any p ls ≡ not (eqb code 0)
+    pub small : code ≤ linkLimit
 
-    no-investor : defaultLink (r .links) s c ≡ none → hasInvestor (r .links) s c ≡ false
-    unfolding defaultLink hasInvestor
-    no-investor e = go (find (isInvestor s c) (r .links)) refl
-      where
-        go : (o : Option Link) → find (isInvestor s c) (r .links) ≡ o → hasInvestor (r .links) s c ≡ false
-        go none f = none-any (isInvestor s c) (r .links) (find-none (isInvestor s c) (r .links) f)
-        go (some l) f =
-            clash (isDefault s c l) (first-default l (found-first (isInvestor s c) (r .links) l f))
-            (find-none (isDefault s c) (r .links) e l (find-some (isInvestor s c) (r .links) l f .0))
+  pub finds : (k code : ℕ) → Finds (linksFrom l s c k code) (codeFrom l s c p k code)
+  unfolding linksFrom codeFrom
+  finds zero code = record { link = refl; there = refl; small = omega arith }
+  finds (suc k) code = go (endsAt code) refl (p (linkIn l s c (code - 1))) refl (linksFrom l s c k (read l (linkAt (code - 1) 0))) (codeFrom l s c p k (read l (linkAt (code - 1) 0))) (finds k (read l (linkAt (code - 1) 0)))
+    where
+      go : (b : Bool) → endsAt code ≡ b → (h : Bool) → p (linkIn l s c (code - 1)) ≡ h → (older : List Link) (below : ℕ) → Finds older below
+          → Finds (cond b [] (linkIn l s c (code - 1) ∷ older)) (cond b 0 (cond h code below))
+      go true e h f older below F = record { link = refl; there = refl; small = omega arith }
+      go false e true f older below F =
+          let g = goes-on code e in
+          record {
+            link = rw f (sym (link-of l s c code (λ z. omega (arith, g .0))));
+            there = rw (f, ne-eqb code 0 (λ z. omega (arith, g .0)));
+            small = g .1;
+          }
+      go false e false f older below F = record { link = rw f (F .link); there = rw f (F .there); small = F .small }
 
-  pub default-investor : (l : Link) → defaultLink (r .links) s c ≡ some l → hasInvestor (r .links) s c ≡ true
-  unfolding defaultLink hasInvestor
-  default-investor l e =
-      let f = find-some (isDefault s c) (r .links) l e in
-      any-true (isInvestor s c) (r .links) l (f .0) (and-both (isInvestor s c l) (eqb (l .flag) 1) (f .1) .0)
+  -- one step of the search: the list ends, the link is the one, or the next older one is asked
+  pub code-end : (k code : ℕ) → endsAt code ≡ true → 0 ≡ codeFrom l s c p k code
+  unfolding codeFrom
+  code-end zero code e = refl
+  code-end (suc k) code e = rw e
 
-  pub issuer-link : hasIssuer (r .links) s c ≡ true → hasLink (r .links) s c ≡ true
-  unfolding hasIssuer hasLink
-  issuer-link e =
-      let x = any-some (isIssuer s c) (r .links) e in
-      any-true (isLink s c) (r .links) (x .0) (x .1) (and-both (isLink s c (x .0)) (eqb (x .0 .kind) 0) (x .2) .0)
+  pub code-hit : (k code : ℕ) → 1 ≤ k → endsAt code ≡ false → p (linkIn l s c (code - 1)) ≡ true → code ≡ codeFrom l s c p k code
+  unfolding codeFrom
+  code-hit zero code a e h = absurd (omega arith)
+  code-hit (suc k) code a e h = rw (e, h)
 
-  pub investor-link : hasInvestor (r .links) s c ≡ true → hasLink (r .links) s c ≡ true
-  unfolding hasInvestor hasLink
-  investor-link e =
-      let x = any-some (isInvestor s c) (r .links) e in
-      any-true (isLink s c) (r .links) (x .0) (x .1) (and-both (isLink s c (x .0)) (eqb (x .0 .kind) 1) (x .2) .0)
+  pub code-miss : (k code : ℕ) → 1 ≤ k → endsAt code ≡ false → p (linkIn l s c (code - 1)) ≡ false → codeFrom l s c p k code ≡ codeFrom l s c p (k - 1) (read l (linkAt (code - 1) 0))
+  unfolding codeFrom
+  code-miss zero code a e h = absurd (omega arith)
+  code-miss (suc k) code a e h = let fewer : suc k - 1 ≡ k = omega arith in rw (e, h, fewer)
 
-  module _ (F : Facts r) where
-    -- links name rows
-    link-small : (l : Link) → List·Memᴰ l (r .links) → l .security ≡ s → l .csd ≡ c → (s < securityLimit) × (c < csdLimit)
-    link-small l m e f =
-        (rw e at (security-small r F (l .security) (F .links l m .securityRow)), rw f at (csd-small r F (l .csd) (F .links l m .csdRow)))
+  pub code-over : (code : ℕ) → 0 ≡ codeFrom l s c p 0 code
+  unfolding codeFrom
+  code-over code = refl
 
-    issuer-small : hasIssuer (r .links) s c ≡ true → (s < securityLimit) × (c < csdLimit)
-    issuer-small e = let x = has-issuer r s c e in link-small (x .0) (x .1 .entered) (x .1 .security) (x .1 .csd)
+-- what is looked for does not depend on CSD and security
+pub wants-same : (w : Wanted) (l : List ℕ) (s c n : ℕ) → wants w (linkIn l s c n) ≡ wants w (linkIn l 0 0 n)
+unfolding linkIn
+wants-same Any l s c n = refl
+wants-same Issuers l s c n = refl
+wants-same Defaults l s c n = refl
+wants-same (Towards t) l s c n = refl
 
-    default-small : (l : Link) → defaultLink (r .links) s c ≡ some l → (s < securityLimit) × (c < csdLimit)
-    default-small l e = let x = found-default r s c l e in link-small l (x .entered) (x .security) (x .csd)
+-- one link more
+pub links-step : (l : List ℕ) (s c k code : ℕ) → 1 ≤ k → endsAt code ≡ false → linksFrom l s c k code ≡ linkIn l s c (code - 1) ∷ linksFrom l s c (k - 1) (read l (linkAt (code - 1) 0))
+unfolding linksFrom
+links-step l s c zero code a e = absurd (omega arith)
+links-step l s c (suc k) code a e = let fewer : suc k - 1 ≡ k = omega arith in rw (e, fewer)
 
-    pub technical-small : (l : Link) → defaultLink (r .links) s c ≡ some l → l .technical < csdLimit
-    technical-small l e =
-        let x = found-default r s c l e in
-        csd-small r F (l .technical) (F .links l (x .entered) .investor (x .kind) .technicalRow)
+pub links-end : (l : List ℕ) (s c k code : ℕ) → endsAt code ≡ true → linksFrom l s c k code ≡ []
+unfolding linksFrom
+links-end l s c zero code e = refl
+links-end l s c (suc k) code e = rw e
 
-    pub unlinked : (t : ℕ) → (s < securityLimit → c < csdLimit → t < csdLimit → ⊥) → hasLinkTo (r .links) s c t ≡ false
-    unlinked t n = untrue (hasLinkTo (r .links) s c t) go
-      where
-        go : hasLinkTo (r .links) s c t ≡ true → ⊥
-        go e =
-            let x = has-link-to r s c t e in
-            let small = link-small (x .0) (x .1 .entered) (x .1 .security) (x .1 .csd) in
-            n (small .0) (small .1) (rw (x .1 .technical) at (csd-small r F (x .0 .technical) (F .links (x .0) (x .1 .entered) .investor (x .1 .kind) .technicalRow)))
+pub links-over : (l : List ℕ) (s c code : ℕ) → linksFrom l s c 0 code ≡ []
+unfolding linksFrom
+links-over l s c code = refl
 
-    -- beside an issuer link stands no investor link
-    pub issuer-alone : hasIssuer (r .links) s c ≡ true → hasInvestor (r .links) s c ≡ false
-    unfolding hasInvestor
-    issuer-alone e = none-any (isInvestor s c) (r .links) (λ k m. untrue (isInvestor s c k) (λ f. never k m f))
-      where
-        never : (k : Link) → List·Memᴰ k (r .links) → isInvestor s c k ≡ true → ⊥
-        never k m f =
-            let x = has-issuer r s c e in
-            let b = and-both (isLink s c k) (eqb (k .kind) 1) f in
-            let p = link-told s c k (b .0) in
-            let same : x .0 ≡ k = F .oneIssuer (x .0) k (x .1 .entered) m (x .1 .kind) (x .1 .security ∙ sym (p .0)) (x .1 .csd ∙ sym (p .1)) in
-            let zeroth : k .kind ≡ 0 = rw same at (x .1 .kind) in
-            omega (arith, eqb-is (k .kind) 1 (b .1))
+-- ---- searches of the rows that pass a test
+module _ {A : Type 0} where
+  pub find-only : (p q : A → Bool) (l : List A) → find q (only p l) ≡ find (λ x. p x && q x) l
+  find-only p q [] = refl
+  find-only p q (x ∷ l) = go (p x) (q x) (find-only p q l)
+    where
+      go : (a b : Bool) → find q (only p l) ≡ find (λ y. p y && q y) l → find q (cond a (x ∷ only p l) (only p l)) ≡ cond (a && q x) (some x) (find (λ y. p y && q y) l)
+      go true b below = rw below
+      go false b below = below
 
-    pub no-link : hasIssuer (r .links) s c ≡ false → hasInvestor (r .links) s c ≡ false → hasLink (r .links) s c ≡ false
-    unfolding hasIssuer hasInvestor hasLink
-    no-link e f = none-any (isLink s c) (r .links) (λ l m. untrue (isLink s c l) (λ p. never l m p))
-      where
-        never : (l : Link) → List·Memᴰ l (r .links) → isLink s c l ≡ true → ⊥
-        never l m p =
-            elim (F .links l m .kind) [
-              | inl k ↦ clash (isIssuer s c l) (and-true (isLink s c l) (eqb (l .kind) 0) p (eqb-true (l .kind) 0 k)) (any-none (isIssuer s c) (r .links) e l m)
-              | inr k ↦ clash (isInvestor s c l) (and-true (isLink s c l) (eqb (l .kind) 1) p (eqb-true (l .kind) 1 k)) (any-none (isInvestor s c) (r .links) f l m)
-            ]
+  pub any-only : (p q : A → Bool) (l : List A) → any q (only p l) ≡ any (λ x. p x && q x) l
+  any-only p q [] = refl
+  any-only p q (x ∷ l) = go (p x) (any-only p q l)
+    where
+      go : (a : Bool) → any q (only p l) ≡ any (λ y. p y && q y) l → any q (cond a (x ∷ only p l) (only p l)) ≡ ((a && q x) || any (λ y. p y && q y) l)
+      go true below = rw below
+      go false below = below
 
-    -- beyond the tables there is no issuer link, and the code is 0
-    pub no-issuer : (s < securityLimit → c < csdLimit → ⊥) → hasIssuer (r .links) s c ≡ false
-    no-issuer n = untrue (hasIssuer (r .links) s c) (λ e. n (issuer-small e .0) (issuer-small e .1))
+  pub find-alike : (p q : A → Bool) → ((x : A) → p x ≡ q x) → (l : List A) → find p l ≡ find q l
+  find-alike p q e [] = refl
+  find-alike p q e (x ∷ l) = rw (e x, find-alike p q e l)
 
-    pub no-route : (s < securityLimit → c < csdLimit → ⊥) → 0 ≡ cond (hasIssuer (r .links) s c) issuerCode (defaultCode (defaultLink (r .links) s c))
-    no-route n = rw (no-issuer n) (go (defaultLink (r .links) s c) refl)
-      where
-        go : (o : Option Link) → defaultLink (r .links) s c ≡ o → 0 ≡ defaultCode o
-        go none e = refl
-        go (some l) e = absurd (n (default-small l e .0) (default-small l e .1))
+  pub any-alike : (p q : A → Bool) → ((x : A) → p x ≡ q x) → (l : List A) → any p l ≡ any q l
+  any-alike p q e [] = refl
+  any-alike p q e (x ∷ l) = rw (e x, any-alike p q e l)
 
-pub first-is-default : {ix : List ℕ} {d : Directory} → Indexed ix d → (s c : ℕ) → defaultLink (rowsOf d .links) s c ≡ none → hasInvestor (rowsOf d .links) s c ≡ false
-unfolding sound
-first-is-default {d = d} h s c e =
-    no-investor (rowsOf d) s c (tables (rowsOf d) (and-both (withinLimits d) (soundRows (rowsOf d)) (h .soundBooks) .1) .links) e
+-- a period of one day
+pub on-the-day : (day : ℕ) (x : Link) → hasDayIn day day x ≡ covers day x
+on-the-day day x = equal-tests (hasDayIn day day x) (covers day x) to from
+  where
+    to : hasDayIn day day x ≡ true → covers day x ≡ true
+    to e =
+        let b = and-both (leb day day && leb (x .first) (x .last)) (leb day (x .last) && leb (x .first) day) e in
+        let c = and-both (leb day (x .last)) (leb (x .first) day) (b .1) in
+        and-true (leb (x .first) day) (leb day (x .last)) (c .1) (c .0)
+
+    from : covers day x ≡ true → hasDayIn day day x ≡ true
+    from e =
+        let b = and-both (leb (x .first) day) (leb day (x .last)) e in
+        let f : x .first ≤ day = leb-is (x .first) day (b .0) in
+        let g : day ≤ x .last = leb-is day (x .last) (b .1) in
+        and-true (leb day day && leb (x .first) (x .last)) (leb day (x .last) && leb (x .first) day)
+        (and-true (leb day day) (leb (x .first) (x .last)) (leb-true day day (omega arith)) (leb-true (x .first) (x .last) (omega arith)))
+        (and-true (leb day (x .last)) (leb (x .first) day) (b .1) (b .0))
+
+-- ---- searches of the links of a day
+module _ (l : List ℕ) (s c day : ℕ) (w : Wanted) where
+  of-the-day : (x : Link) → (covers day x && wants w x) ≡ (hasDayIn day day x && wants w x)
+  of-the-day x = rw (on-the-day day x)
+
+  search : Finds l s c (λ x. hasDayIn day day x && wants w x) (linksAt l s c) (foundIn l s c day day w)
+  search = finds l s c (λ x. hasDayIn day day x && wants w x) linkLimit (read l (newestAt s c))
+
+  pub find-on : find (λ x. covers day x && wants w x) (linksAt l s c) ≡ linkOf l s c (foundIn l s c day day w)
+  find-on = find-alike (λ x. covers day x && wants w x) (λ x. hasDayIn day day x && wants w x) of-the-day (linksAt l s c) ∙ search .link
+
+  pub find-among : find (wants w) (only (covers day) (linksAt l s c)) ≡ linkOf l s c (foundIn l s c day day w)
+  find-among = find-only (covers day) (wants w) (linksAt l s c) ∙ find-on
+
+  pub small : foundIn l s c day day w ≤ linkLimit
+  small = search .small
+
+-- the issuer link or default link of a day
+module _ (l : List ℕ) (s c day : ℕ) where
+  lead : Finds l s c (λ x. covers day x && leads x) (linksAt l s c) (leadIn l s c day)
+  lead = finds l s c (λ x. covers day x && leads x) linkLimit (read l (newestAt s c))
+
+  pub lead-none : leadIn l s c day ≡ 0 → find leads (linksOn l day s c) ≡ none
+  lead-none e = find-only (covers day) leads (linksAt l s c) ∙ (lead .link ∙ ap (linkOf l s c) e)
+
+  -- the code that is found is that of a link, and its link the one that leads
+  module _ (code : ℕ) (e : code ≡ leadIn l s c day) where
+    pub lead-small : code ≤ linkLimit
+    lead-small = rw e (lead .small)
+
+    pub lead-link : code ≢ 0 → find leads (linksOn l day s c) ≡ some (linkIn l s c (code - 1))
+    lead-link n = find-only (covers day) leads (linksAt l s c) ∙ rw e (lead .link ∙ link-of l s c (leadIn l s c day) (λ z. n (e ∙ z)))

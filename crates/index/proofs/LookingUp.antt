@@ -12,16 +12,16 @@ use Rattle.rules.specs.declared.Csd.{Csd}
 use Rattle.rules.specs.declared.Account.{Account}
 use Rattle.rules.specs.declared.Directory.{Directory}
 use Rattle.rules.specs.Tests.{isRow}
-use Rattle.rules.specs.Directory.{Rows, rowsOf, csdLimit, typeIs, kindIs, csdIs, inBooks}
+use Rattle.rules.specs.Directory.{Rows, rowsOn, csdLimit, typeIs, kindIs, csdIs, inBooks}
 use Rattle.rules.proofs.Basics.{equal-tests, eqb-is, eqb-true, eqb-false, ltb-is, ltb-true, ltb-false}
 use Rattle.rules.proofs.Facts.{Facts}
 use Rattle.rules.proofs.Soundness.{sound-gives}
 use Rattle.index.proofs.Laws.{unknown}
-use Rattle.index.specs.Index.{Indexed, typeCode, homeCode, kindCode, flagCode}
+use Rattle.index.specs.Index.{Indexed, typeCode, homeCode, kindCode}
 
--- the facts of the directory whose index the list is
-pub facts : {ix : List ℕ} {d : Directory} → Indexed ix d → Facts (rowsOf d)
-facts {d = d} h = sound-gives d (h .soundBooks)
+-- the facts of the directory whose index the list is; but for links they are the same on every day
+pub facts : {ix : List ℕ} {d : Directory} → Indexed ix d → Facts (rowsOn 0 d)
+facts {d = d} h = sound-gives d (h .soundBooks) 0
 
 -- ---- rows by number
 there : {A : Type 0} (l : List A) (i : ℕ) → i < length l → (x : A) × (getElem? l i ≡ some x)
@@ -59,10 +59,6 @@ books-told c (some x) = next-tests (x .csd) c
 pub kind-told : (k : ℕ) (o : Option Account) → eqb (kindCode o) (k + 1) ≡ kindIs k o
 kind-told k none = eqb-false 0 (k + 1) (omega arith)
 kind-told k (some x) = next-tests (x .kind) k
-
-pub flag-told : (b : Bool) → not (eqb (flagCode b) 0) ≡ b
-flag-told true = refl
-flag-told false = refl
 
 module _ (r : Rows) (F : Facts r) where
   pub csd-small : (c : ℕ) → isRow (r .csds) c ≡ true → c < csdLimit

@@ -6,9 +6,9 @@ use mathlib.Core.Bool.{Bool, true, false, _&&_}
 use mathlib.Core.List.{List}
 use lib.Dec.{ltb}
 use borrow.Author.Tests.{ltb-true, lt-ltb}
-use Rattle.rules.specs.Directory.{csdLimit, securityLimit, accountLimit}
+use Rattle.rules.specs.Directory.{csdLimit, securityLimit, accountLimit, linkLimit}
 use Rattle.rules.proofs.Basics.{clash, and-both, and-true}
-use Rattle.index.specs.Index.{Place, csdCount, securityCount, accountCount, pairCount, linkCount, typeAt, homeAt, kindAt, mirrorAt, omnibusAt, investorAt, technicalAt, servedAt, routeAt, issuanceAt, linkAt, Inside, placeOf, numberAt}
+use Rattle.index.specs.Index.{Place, csdCount, securityCount, accountCount, pairCount, linkCount, typeAt, homeAt, kindAt, mirrorAt, omnibusAt, investorAt, technicalAt, servedAt, newestAt, linkAt, linkNumbers, Inside, placeOf, numberAt}
 use Rattle.index.specs.Asked.{has, read}
 
 pub read-in : (l : List ℕ) (p : Place) → has p ≡ true → numberAt l (placeOf p) ≡ read l p
@@ -49,8 +49,5 @@ inside (omnibusAt a) e = ltb-true a accountLimit e
 inside (investorAt a) e = ltb-true a accountLimit e
 inside (technicalAt a) e = ltb-true a accountLimit e
 inside (servedAt t a) e = both t a csdLimit accountLimit e
-inside (routeAt s c) e = both s c securityLimit csdLimit e
-inside (issuanceAt s c) e = both s c securityLimit csdLimit e
-inside (linkAt s c t) e =
-    let k = and-both (ltb s securityLimit) (ltb c csdLimit && ltb t csdLimit) e in
-    (ltb-true s securityLimit (k .0), both c t csdLimit csdLimit (k .1))
+inside (newestAt s c) e = both s c securityLimit csdLimit e
+inside (linkAt n f) e = both n f linkLimit linkNumbers e

@@ -10,7 +10,7 @@ use lib.ListN.{length, getD, length-set}
 use lib.Seq.{getD-set-same, getD-set-other}
 use borrow.Author.Tests.{lt-ltb, le-ltb}
 use Rattle.rules.specs.Directory.{csdLimit}
-use Rattle.index.specs.Index.{Place, csdCount, securityCount, accountCount, pairCount, linkCount, typeAt, homeAt, kindAt, mirrorAt, omnibusAt, investorAt, technicalAt, servedAt, routeAt, issuanceAt, linkAt, Inside, placeOf, types, homes, kinds, mirrors, omnibuses, investors, technicals, served, routes, issuances, linked, indexSize, numberAt, withNumber}
+use Rattle.index.specs.Index.{Place, csdCount, securityCount, accountCount, pairCount, linkCount, typeAt, homeAt, kindAt, mirrorAt, omnibusAt, investorAt, technicalAt, servedAt, newestAt, linkAt, linkNumbers, Inside, placeOf, types, homes, kinds, mirrors, omnibuses, investors, technicals, served, newest, links, indexSize, numberAt, withNumber}
 
 -- ---- the number of a place tells the place
 pub below : (p : Place) → Inside p → placeOf p < indexSize
@@ -27,9 +27,8 @@ below (omnibusAt a) i = omega arith
 below (investorAt a) i = omega arith
 below (technicalAt a) i = omega arith
 below (servedAt t a) i = omega arith
-below (routeAt s c) i = omega arith
-below (issuanceAt s c) i = omega arith
-below (linkAt s c t) i = omega arith
+below (newestAt s c) i = omega arith
+below (linkAt n f) i = omega arith
 
 -- the place at a number
 abbrev placeAt : ℕ → Place
@@ -44,13 +43,11 @@ placeAt n =
     (cond (ltb n investors)
     (cond (ltb n omnibuses) (mirrorAt (n - mirrors)) (omnibusAt (n - omnibuses)))
     (cond (ltb n technicals) (investorAt (n - investors)) (technicalAt (n - technicals))))
-    (cond (ltb n issuances)
-    (cond (ltb n routes)
+    (cond (ltb n newest)
     (servedAt ((n - served) % csdLimit) ((n - served) / csdLimit))
-    (routeAt ((n - routes) / csdLimit) ((n - routes) % csdLimit)))
-    (cond (ltb n linked)
-    (issuanceAt ((n - issuances) / csdLimit) ((n - issuances) % csdLimit))
-    (linkAt ((n - linked) / csdLimit / csdLimit) ((n - linked) / csdLimit % csdLimit) ((n - linked) % csdLimit)))))
+    (cond (ltb n links)
+    (newestAt ((n - newest) / csdLimit) ((n - newest) % csdLimit))
+    (linkAt ((n - links) / linkNumbers) ((n - links) % linkNumbers)))))
 
 -- a number of a table of CSDs by something
 line : (from n c : ℕ) → c < csdLimit → (from + (n * csdLimit + c) - from) / csdLimit ≡ n
@@ -88,19 +85,15 @@ told (technicalAt a) i =
     rw (le-ltb n mirrors (omega arith), lt-ltb n served (omega arith), le-ltb n investors (omega arith), le-ltb n technicals (omega arith)) (ap technicalAt (omega arith))
 told (servedAt t a) i =
     let n : ℕ = served + (a * csdLimit + t) in
-    rw (le-ltb n mirrors (omega arith), le-ltb n served (omega arith), lt-ltb n issuances (omega arith), lt-ltb n routes (omega arith), line served a t (i .0), column served a t (i .0))
-told (routeAt s c) i =
-    let n : ℕ = routes + (s * csdLimit + c) in
-    rw (le-ltb n mirrors (omega arith), le-ltb n served (omega arith), lt-ltb n issuances (omega arith), le-ltb n routes (omega arith), line routes s c (i .1), column routes s c (i .1))
-told (issuanceAt s c) i =
-    let n : ℕ = issuances + (s * csdLimit + c) in
-    rw (le-ltb n mirrors (omega arith), le-ltb n served (omega arith), le-ltb n issuances (omega arith), lt-ltb n linked (omega arith), line issuances s c (i .1), column issuances s c (i .1))
-told (linkAt s c t) i =
-    let n : ℕ = linked + ((s * csdLimit + c) * csdLimit + t) in
-    let row = s * csdLimit + c in
-    let security : row / csdLimit ≡ s = omega arith in
-    let csd : row % csdLimit ≡ c = omega arith in
-    rw (le-ltb n mirrors (omega arith), le-ltb n served (omega arith), le-ltb n issuances (omega arith), le-ltb n linked (omega arith), line linked row t (i .1 .1), column linked row t (i .1 .1), security, csd)
+    rw (le-ltb n mirrors (omega arith), le-ltb n served (omega arith), lt-ltb n newest (omega arith), line served a t (i .0), column served a t (i .0))
+told (newestAt s c) i =
+    let n : ℕ = newest + (s * csdLimit + c) in
+    rw (le-ltb n mirrors (omega arith), le-ltb n served (omega arith), le-ltb n newest (omega arith), lt-ltb n links (omega arith), line newest s c (i .1), column newest s c (i .1))
+told (linkAt m f) i =
+    let n : ℕ = links + (m * linkNumbers + f) in
+    let row : (links + (m * linkNumbers + f) - links) / linkNumbers ≡ m = omega arith in
+    let number : (links + (m * linkNumbers + f) - links) % linkNumbers ≡ f = omega arith in
+    rw (le-ltb n mirrors (omega arith), le-ltb n served (omega arith), le-ltb n newest (omega arith), le-ltb n links (omega arith), row, number)
 
 pub same-place : (p q : Place) → Inside p → Inside q → placeOf p ≡ placeOf q → p ≡ q
 same-place p q i j e = sym (told p i) ∙ (ap placeAt e ∙ told q j)

@@ -1,16 +1,18 @@
 -- The questions of the rules, put to a list of numbers that stand where an index has them. Whatever the list, each has its answer; where the list is the
 -- index of a directory, it is the directory's. Assumes nothing.
 use mathlib.Core.Path.{_≡_}
-use Prim.Native.Nat.{ℕ, _+_, _-_}
-use mathlib.Core.Bool.{Bool, true, not, _&&_, cond}
-use mathlib.Core.List.{List}
+use Prim.Native.Nat.{ℕ, zero, suc, _+_, _-_}
+use mathlib.Core.Bool.{Bool, true, false, not, _&&_, _||_, cond}
+use mathlib.Core.List.{List, [], _∷_}
 use mathlib.Core.Option.{Option, none, some}
 use lib.Dec.{eqb, ltb, leb}
 use Rattle.rules.specs.declared.Pair.{Pair}
+use Rattle.rules.specs.declared.Link.{Link}
 use Rattle.rules.specs.declared.Directory.{Directory}
-use Rattle.rules.specs.Directory.{rowsOf, csdLimit, securityLimit, accountLimit, pairLimit, linkLimit, noCsd, noAccount}
-use Rattle.rules.specs.Lookups.{Lookups, ask}
-use Rattle.index.specs.Index.{Indexed, Place, csdCount, securityCount, accountCount, pairCount, linkCount, typeAt, homeAt, kindAt, mirrorAt, omnibusAt, investorAt, technicalAt, servedAt, routeAt, issuanceAt, linkAt, placeOf, numberAt, issuerCode}
+use Rattle.rules.specs.Tests.{any, find, only}
+use Rattle.rules.specs.Directory.{rowsOf, rowsOn, covers, issues, defaults, pointsTo, csdLimit, securityLimit, accountLimit, pairLimit, linkLimit, noCsd, noAccount}
+use Rattle.rules.specs.Lookups.{Lookups, technicalOf, accountOf, ask}
+use Rattle.index.specs.Index.{Indexed, Place, csdCount, securityCount, accountCount, pairCount, linkCount, typeAt, homeAt, kindAt, mirrorAt, omnibusAt, investorAt, technicalAt, servedAt, newestAt, linkAt, linkNumbers, placeOf, numberAt}
 
 -- the places that an index has
 abbrev pub has : Place → Bool
@@ -27,9 +29,8 @@ has (omnibusAt a) = ltb a accountLimit
 has (investorAt a) = ltb a accountLimit
 has (technicalAt a) = ltb a accountLimit
 has (servedAt t a) = ltb t csdLimit && ltb a accountLimit
-has (routeAt s c) = ltb s securityLimit && ltb c csdLimit
-has (issuanceAt s c) = ltb s securityLimit && ltb c csdLimit
-has (linkAt s c t) = ltb s securityLimit && (ltb c csdLimit && ltb t csdLimit)
+has (newestAt s c) = ltb s securityLimit && ltb c csdLimit
+has (linkAt n f) = ltb n linkLimit && ltb f linkNumbers
 
 -- the number at a place of the list, 0 beyond
 unfoldable pub read : List ℕ → Place → ℕ
@@ -54,17 +55,62 @@ duoIs l a x =
     (eqb (read l (mirrorAt a)) (x .mirror + 1) && eqb (read l (omnibusAt a)) (x .omnibus))
     && (eqb (read l (investorAt a)) (x .investor) && eqb (read l (technicalAt a)) (x .technical))
 
--- a technical issuer by its code
-abbrev pub onwardBy : ℕ → Option ℕ
-onwardBy code = cond (eqb code 0) none (cond (leb issuerCode code) none (some (code - 1)))
+-- a technical issuer by its number
+abbrev pub technicalBy : ℕ → ℕ
+technicalBy n = cond (ltb 0xff n) noCsd n
 
--- the answers that a list of numbers gives
-unfoldable pub asked : List ℕ → Lookups
-asked l =
+-- the link whose numbers stand at n, read as one of the CSD c for the security s
+unfoldable pub linkIn : List ℕ → ℕ → ℕ → ℕ → Link
+linkIn l s c n =
+    record {
+      security = s;
+      kind = read l (linkAt n 3);
+      csd = c;
+      technical = technicalBy (read l (linkAt n 5));
+      flag = read l (linkAt n 4);
+      account = read l (linkAt n 6);
+      first = read l (linkAt n 1);
+      last = read l (linkAt n 2);
+    }
+
+-- a list of links ends at this code: it is 0, or one more than the number of no link
+abbrev pub endsAt : ℕ → Bool
+endsAt code = eqb code 0 || ltb linkLimit code
+
+-- the links from a code on, each followed by the next older one; k of them at most
+unfoldable pub linksFrom : List ℕ → ℕ → ℕ → ℕ → ℕ → List Link
+linksFrom l s c zero code = []
+linksFrom l s c (suc k) code = cond (endsAt code) [] (linkIn l s c (code - 1) ∷ linksFrom l s c k (read l (linkAt (code - 1) 0)))
+
+-- the links of the CSD for the security, newest first
+abbrev pub linksAt : List ℕ → ℕ → ℕ → List Link
+linksAt l s c = linksFrom l s c linkLimit (read l (newestAt s c))
+
+-- an issuer link or a default link: on a day a CSD has one of them at most for a security
+abbrev pub leads : Link → Bool
+leads x = issues x || defaults x
+
+-- such a link, where it is an issuer link
+abbrev pub asIssuer : Option Link → Option Link
+asIssuer none = none
+asIssuer (some x) = cond (issues x) (some x) none
+
+-- where it is a default link
+abbrev pub asDefault : Option Link → Option Link
+asDefault none = none
+asDefault (some x) = cond (issues x) none (some x)
+
+-- there is one
+abbrev pub isThere : Option Link → Bool
+isThere none = false
+isThere (some x) = true
+
+-- the answers that a list of numbers gives, where these are the links of a CSD for a security, its issuer link and its default link
+unfoldable pub askedBy : (ℕ → ℕ → List Link) → (ℕ → ℕ → Option Link) → (ℕ → ℕ → Option Link) → List ℕ → Lookups
+askedBy links issuer default l =
     record {
       accountsFull = leb accountLimit (read l accountCount);
       pairsFull = leb pairLimit (read l pairCount);
-      linksFull = leb linkLimit (read l linkCount);
       csd = λ c. not (eqb (read l (typeAt c)) 0);
       security = λ s. ltb s (read l securityCount);
       account = λ a. not (eqb (read l (homeAt a)) 0);
@@ -75,14 +121,26 @@ asked l =
       apart = λ a x. not (eqb (read l (mirrorAt a)) 0) && not (duoIs l a x);
       pair = λ i t a. cond (booksIn l a i) (pairBy l i t a (read l (servedAt t a))) none;
       served = λ i t a. not (eqb (read l (servedAt t a)) 0) && booksIn l a i;
-      anyLink = λ s c. not (eqb (read l (routeAt s c)) 0);
-      issuer = λ s c. leb issuerCode (read l (routeAt s c));
-      investor = λ s c. not (eqb (read l (routeAt s c)) 0) && ltb (read l (routeAt s c)) issuerCode;
-      issuing = λ s c. cond (leb issuerCode (read l (routeAt s c))) (read l (issuanceAt s c)) noAccount;
-      onward = λ s c. onwardBy (read l (routeAt s c));
-      linked = λ s c t. not (eqb (read l (linkAt s c t)) 0);
+      links = links;
+      issuer = λ s c. isThere (issuer s c);
+      issuing = λ s c. accountOf (issuer s c);
+      onward = λ s c. technicalOf (default s c);
+      linked = λ s c t. any (pointsTo t) (links s c);
     }
 
--- An index answers as its directory does (proved in proofs/Answers).
-abbrev pub IndexAnswers : Type 0
-IndexAnswers = (l : List ℕ) (d : Directory) → Indexed l d → asked l ≡ ask (rowsOf d)
+-- those of all links
+abbrev pub asked : List ℕ → Lookups
+asked l = askedBy (linksAt l) (λ s c. find issues (linksAt l s c)) (λ s c. find defaults (linksAt l s c)) l
+
+-- the links of a day: "only links valid on it are seen"
+abbrev pub linksOn : List ℕ → ℕ → ℕ → ℕ → List Link
+linksOn l day s c = only (covers day) (linksAt l s c)
+
+-- those of a day: its issuer link or its default link is the newest of these that is found
+abbrev pub askedOn : List ℕ → ℕ → Lookups
+askedOn l day = askedBy (linksOn l day) (λ s c. asIssuer (find leads (linksOn l day s c))) (λ s c. asDefault (find leads (linksOn l day s c))) l
+
+-- An index answers as its directory does, on a day too (proved in proofs/Answers).
+pub record IndexAnswers : Type 0 where
+  pub ever : (l : List ℕ) (d : Directory) → Indexed l d → asked l ≡ ask (rowsOf d)
+  pub daily : (l : List ℕ) (d : Directory) → Indexed l d → (day : ℕ) → askedOn l day ≡ ask (rowsOn day d)

@@ -1,24 +1,23 @@
 -- The index of a directory: one number for each question that a chain, a booking or an entry asks of the tables. Assumes nothing.
 use mathlib.Core.Path.{_≡_}
-use Prim.Native.Nat.{ℕ, _+_, _*_, _<_}
+use Prim.Native.Nat.{ℕ, zero, suc, _+_, _*_, _<_}
 use mathlib.Core.Bool.{Bool, true, _&&_, cond}
-use mathlib.Core.List.{List}
+use mathlib.Core.List.{List, [], _∷_, reverse}
 use mathlib.Core.Option.{Option, none, some}
 use lib.Dec.{ltb, eqb}
-use lib.ListN.{length, getD, set, getElem?}
+use lib.ListN.{length, getD, set, take, getElem?}
 use Rattle.rules.specs.declared.Csd.{Csd}
 use Rattle.rules.specs.declared.Account.{Account}
 use Rattle.rules.specs.declared.Pair.{Pair}
 use Rattle.rules.specs.declared.Link.{Link}
 use Rattle.rules.specs.declared.Directory.{Directory}
-use Rattle.rules.specs.Directory.{Rows, rowsOf, csdLimit, securityLimit, accountLimit, pairLimit, linkLimit, noAccount, uses, hasIssuer, hasLinkTo, defaultLink}
+use Rattle.rules.specs.Directory.{Rows, rowsOf, csdLimit, securityLimit, accountLimit, pairLimit, linkLimit, noAccount, uses, isLink}
 use Rattle.rules.specs.Tests.{find}
 use Rattle.rules.specs.Entries.{sound}
-use Rattle.rules.specs.Lookups.{issuance}
 
 -- What stands in an index: the counts of the five tables; by CSD its type; by account its CSD, its kind and the duo that it is in: investor, technical
--- issuer and the two accounts; by technical issuer and account served the first account of their pair row; by security and CSD where the default walk
--- leads, and the issuance account; by security, CSD and technical issuer whether they are linked.
+-- issuer and the two accounts; by technical issuer and account served the first account of their pair row; by security and CSD their newest link; by
+-- link its numbers.
 pub data Place : Type 0 where
   csdCount : Place
   securityCount : Place
@@ -33,9 +32,8 @@ pub data Place : Type 0 where
   investorAt : ℕ → Place
   technicalAt : ℕ → Place
   servedAt : ℕ → ℕ → Place
-  routeAt : ℕ → ℕ → Place
-  issuanceAt : ℕ → ℕ → Place
-  linkAt : ℕ → ℕ → ℕ → Place
+  newestAt : ℕ → ℕ → Place
+  linkAt : ℕ → ℕ → Place
 
 -- a number more than a row's, and 0 for no row
 abbrev pub typeCode : Option Csd → ℕ
@@ -51,10 +49,6 @@ homeCode (some x) = x .csd + 1
 abbrev pub kindCode : Option Account → ℕ
 kindCode none = 0
 kindCode (some x) = x .kind + 1
-
--- 1 for yes
-abbrev pub flagCode : Bool → ℕ
-flagCode b = cond b 1 0
 
 -- the first row that has the account as one of its two; all that have it are of one duo. Hex FFFF is in none
 unfoldable pub duoOf : List Pair → ℕ → Option Pair
@@ -88,14 +82,30 @@ abbrev pub technicalCode : Option Pair → ℕ
 technicalCode none = 0
 technicalCode (some p) = p .technical
 
--- the code of an issuer, which is above that of every technical issuer
-abbrev pub issuerCode : ℕ
-issuerCode = csdLimit + 1
+-- one more than the number of the newest link of the CSD for the security, 0 for none; the links stand newest first
+abbrev pub newestCode : ℕ → ℕ → List Link → ℕ
+newestCode s c [] = 0
+newestCode s c (x ∷ older) = cond (isLink s c x) (suc (length older)) (newestCode s c older)
 
--- the default link's technical issuer
-abbrev pub defaultCode : Option Link → ℕ
-defaultCode none = 0
-defaultCode (some l) = l .technical + 1
+-- how many numbers a link has: the next older link of its CSD for its security, its days, kind, flag, technical issuer and account
+abbrev pub linkNumbers : ℕ
+linkNumbers = 7
+
+-- number f of a link, where `next` is the code of the next older one
+abbrev pub numberOf : ℕ → Link → ℕ → ℕ
+numberOf next x zero = next
+numberOf next x (suc zero) = x .first
+numberOf next x (suc (suc zero)) = x .last
+numberOf next x (suc (suc (suc zero))) = x .kind
+numberOf next x (suc (suc (suc (suc zero)))) = x .flag
+numberOf next x (suc (suc (suc (suc (suc zero))))) = x .technical
+numberOf next x (suc (suc (suc (suc (suc (suc zero)))))) = x .account
+numberOf next x (suc (suc (suc (suc (suc (suc (suc f))))))) = 0
+
+-- the numbers of a link behind those that are older, which stand newest first
+abbrev pub linkCode : List Link → Option Link → ℕ → ℕ
+linkCode older none f = 0
+linkCode older (some x) f = numberOf (newestCode (x .security) (x .csd) older) x f
 
 -- the index of a directory's rows: the number at each place
 abbrev pub indexOf : Rows → Place → ℕ
@@ -112,9 +122,8 @@ indexOf r (omnibusAt a) = omnibusCode (duoOf (r .pairs) a)
 indexOf r (investorAt a) = investorCode (duoOf (r .pairs) a)
 indexOf r (technicalAt a) = technicalCode (duoOf (r .pairs) a)
 indexOf r (servedAt t a) = mirrorCode (servedRow (r .pairs) t a)
-indexOf r (routeAt s c) = cond (hasIssuer (r .links) s c) issuerCode (defaultCode (defaultLink (r .links) s c))
-indexOf r (issuanceAt s c) = cond (hasIssuer (r .links) s c) (issuance (r .links) s c) 0
-indexOf r (linkAt s c t) = flagCode (hasLinkTo (r .links) s c t)
+indexOf r (newestAt s c) = newestCode s c (reverse (r .links))
+indexOf r (linkAt n f) = linkCode (reverse (take n (r .links))) (getElem? (r .links) n) f
 
 -- the places that an index has
 abbrev pub Inside : Place → Type 0
@@ -131,9 +140,8 @@ Inside (omnibusAt a) = a < accountLimit
 Inside (investorAt a) = a < accountLimit
 Inside (technicalAt a) = a < accountLimit
 Inside (servedAt t a) = (t < csdLimit) × (a < accountLimit)
-Inside (routeAt s c) = (s < securityLimit) × (c < csdLimit)
-Inside (issuanceAt s c) = (s < securityLimit) × (c < csdLimit)
-Inside (linkAt s c t) = (s < securityLimit) × ((c < csdLimit) × (t < csdLimit))
+Inside (newestAt s c) = (s < securityLimit) × (c < csdLimit)
+Inside (linkAt n f) = (n < linkLimit) × (f < linkNumbers)
 
 -- where the regions of the index begin, one behind the other, after the five counts
 abbrev pub types : ℕ
@@ -160,18 +168,15 @@ technicals = investors + accountLimit
 abbrev pub served : ℕ
 served = technicals + accountLimit
 
-abbrev pub routes : ℕ
-routes = served + accountLimit * csdLimit
+abbrev pub newest : ℕ
+newest = served + accountLimit * csdLimit
 
-abbrev pub issuances : ℕ
-issuances = routes + securityLimit * csdLimit
-
-abbrev pub linked : ℕ
-linked = issuances + securityLimit * csdLimit
+abbrev pub links : ℕ
+links = newest + securityLimit * csdLimit
 
 -- how many numbers an index has
 abbrev pub indexSize : ℕ
-indexSize = linked + securityLimit * csdLimit * csdLimit
+indexSize = links + linkLimit * linkNumbers
 
 -- the number at a place of a list, 0 behind the end of an index
 unfoldable pub numberAt : List ℕ → ℕ → ℕ
@@ -196,9 +201,8 @@ placeOf (omnibusAt a) = omnibuses + a
 placeOf (investorAt a) = investors + a
 placeOf (technicalAt a) = technicals + a
 placeOf (servedAt t a) = served + (a * csdLimit + t)
-placeOf (routeAt s c) = routes + (s * csdLimit + c)
-placeOf (issuanceAt s c) = issuances + (s * csdLimit + c)
-placeOf (linkAt s c t) = linked + ((s * csdLimit + c) * csdLimit + t)
+placeOf (newestAt s c) = newest + (s * csdLimit + c)
+placeOf (linkAt n f) = links + (n * linkNumbers + f)
 
 -- the tables are as long as their limits, rows that are not in use among them
 pub record WholeTables (d : Directory) : Type 0 where

@@ -2,3 +2,4 @@
 
 pub mod places; // places.rt: where each number stands, read and stored
 pub mod lookups; // lookups.rt: questions to the index
+pub mod links; // links.rt: questions to the links of a CSD for a security

@@ -1,18 +1,14 @@
-// Questions to an index. Each is answered for every list of numbers as specs/Asked says; where the list is the index of a directory, that is what
+// Questions to an index, but for those to links. Each is answered for every list of numbers as specs/Asked says; where the list is the index of a directory, that is what
 // searching its tables would answer.
 use crate::places::ACCOUNT_COUNT;
 use crate::places::HOMES;
 use crate::places::INDEX;
 use crate::places::INVESTORS;
-use crate::places::ISSUANCES;
-use crate::places::ISSUER;
 use crate::places::KINDS;
 use crate::places::LINK_COUNT;
-use crate::places::LINKED;
 use crate::places::MIRRORS;
 use crate::places::OMNIBUSES;
 use crate::places::PAIR_COUNT;
-use crate::places::ROUTES;
 use crate::places::SECURITY_COUNT;
 use crate::places::SERVED;
 use crate::places::TECHNICALS;
@@ -21,29 +17,22 @@ use crate::places::entry;
 use rules::ACCOUNTS;
 use rules::CSDS;
 use rules::LINKS;
-use rules::NO_ACCOUNT;
 use rules::NO_CSD;
 use rules::PAIRS;
 use rules::Pair;
-use rules::SECURITIES;
 ghost use mathlib.Core.Path.{_≡_};
 ghost use Prim.Native.Nat.{_<_};
+ghost use lib.Dec.{leb};
+ghost use Rattle.rules.specs.Directory.{linkLimit};
 ghost use Rattle.rules.specs.Lookups.{isAccountOf};
-ghost use Rattle.index.specs.Index.{typeAt, homeAt, kindAt, omnibusAt, servedAt, routeAt};
+ghost use Rattle.index.specs.Index.{linkCount, typeAt, homeAt, kindAt, omnibusAt, servedAt};
 ghost use Rattle.index.specs.Asked.{read, duoIs, asked};
-ghost use Rattle.index.specs.Found.{leadingOf, pairFound};
+ghost use Rattle.index.specs.Found.{pairFound};
 
 // A pair's row, if there is one.
 pub enum PairFound {
     Row(Pair),
     Missing,
-}
-
-// Where a CSD's links for a security lead by default: nowhere further for an issuer, else to a technical issuer, if there is a default link.
-pub enum Leading {
-    Issuer,
-    To(u8),
-    Nowhere,
 }
 
 // One more than the CSD's type, 0 where the number names no row.
@@ -71,7 +60,7 @@ pub fn pairs_full(index: &[u16; INDEX]) -> bool
 }
 
 pub fn links_full(index: &[u16; INDEX]) -> bool
-    ensures { λ r. ⌜ r ≡ asked (now (index .entry)) .linksFull ⌝ }
+    ensures { λ r. ⌜ r ≡ leb linkLimit (read (now (index .entry)) linkCount) ⌝ }
 {
     LINKS <= (entry(index, LINK_COUNT) as usize)
 }
@@ -239,88 +228,4 @@ pub fn is_served(index: &[u16; INDEX], investor: u8, technical: u8, served: u16)
     ensures { λ r. ⌜ r ≡ asked (now (index .entry)) .served investor technical served ⌝ }
 {
     (served_code(index, technical, served) != 0) & in_books(index, served, investor)
-}
-
-// What stands for the CSD's links for the security: where they lead by default.
-fn route_code(index: &[u16; INDEX], security: u8, csd: u8) -> u16
-    ensures { λ r. ⌜ r ≡ read (now (index .entry)) (routeAt security csd) ⌝ }
-{
-    let s = security as usize;
-    let c = csd as usize;
-    if SECURITIES <= s {
-        return 0;
-    }
-    if CSDS <= c {
-        return 0;
-    }
-    entry(index, ROUTES + (s * CSDS + c))
-}
-
-// Where the CSD's links for the security lead by default.
-pub fn leading_at(index: &[u16; INDEX], security: u8, csd: u8) -> Leading
-    ensures { λ r. ⌜ r ≡ leadingOf (asked (now (index .entry)) .issuer security csd) (asked (now (index .entry)) .onward security csd) ⌝ }
-{
-    let code = route_code(index, security, csd);
-    if code == 0 {
-        return Leading::Nowhere;
-    }
-    if ISSUER <= code {
-        return Leading::Issuer;
-    }
-    Leading::To((code - 1) as u8)
-}
-
-// Whether the CSD has a link for the security.
-pub fn has_link(index: &[u16; INDEX], security: u8, csd: u8) -> bool
-    ensures { λ r. ⌜ r ≡ asked (now (index .entry)) .anyLink security csd ⌝ }
-{
-    route_code(index, security, csd) != 0
-}
-
-// An issuer link.
-pub fn has_issuer(index: &[u16; INDEX], security: u8, csd: u8) -> bool
-    ensures { λ r. ⌜ r ≡ asked (now (index .entry)) .issuer security csd ⌝ }
-{
-    ISSUER <= route_code(index, security, csd)
-}
-
-// An investor link.
-pub fn has_investor(index: &[u16; INDEX], security: u8, csd: u8) -> bool
-    ensures { λ r. ⌜ r ≡ asked (now (index .entry)) .investor security csd ⌝ }
-{
-    let code = route_code(index, security, csd);
-    (code != 0) & (code < ISSUER)
-}
-
-// The issuance account of the CSD's issuer link, hex FFFF where it has none.
-pub fn issuance_of(index: &[u16; INDEX], security: u8, csd: u8) -> u16
-    ensures { λ r. ⌜ r ≡ asked (now (index .entry)) .issuing security csd ⌝ }
-{
-    let code = route_code(index, security, csd);
-    if code < ISSUER {
-        return NO_ACCOUNT;
-    }
-    entry(
-        index,
-        ISSUANCES + ((security as usize) * CSDS + (csd as usize)),
-    )
-}
-
-// An investor link, "default or alternative", to this technical issuer.
-pub fn has_link_to(index: &[u16; INDEX], security: u8, csd: u8, technical: u8) -> bool
-    ensures { λ r. ⌜ r ≡ asked (now (index .entry)) .linked security csd technical ⌝ }
-{
-    let s = security as usize;
-    let c = csd as usize;
-    let t = technical as usize;
-    if SECURITIES <= s {
-        return false;
-    }
-    if CSDS <= c {
-        return false;
-    }
-    if CSDS <= t {
-        return false;
-    }
-    entry(index, LINKED + ((s * CSDS + c) * CSDS + t)) != 0
 }

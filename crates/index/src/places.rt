@@ -1,6 +1,7 @@
 // Where the numbers of an index stand (specs/Index has what each means).
 use rules::ACCOUNTS;
 use rules::CSDS;
+use rules::LINKS;
 use rules::SECURITIES;
 ghost use mathlib.Core.Path.{_≡_};
 ghost use Rattle.index.specs.Index.{numberAt, withNumber};
@@ -36,19 +37,31 @@ pub const TECHNICALS: usize = INVESTORS + ACCOUNTS;
 // By account served and technical issuer: one more than the account in the investor's books, 0 for no row.
 pub const SERVED: usize = TECHNICALS + ACCOUNTS;
 
-// By security and CSD: where the default walk leads, and the issuance account.
-pub const ROUTES: usize = SERVED + ACCOUNTS * CSDS;
+// By security and CSD: one more than the number of their newest link, 0 for none.
+pub const NEWEST: usize = SERVED + ACCOUNTS * CSDS;
 
-pub const ISSUANCES: usize = ROUTES + SECURITIES * CSDS;
+// By link: its numbers.
+pub const LINK_ROWS: usize = NEWEST + SECURITIES * CSDS;
 
-// By security, CSD and technical issuer: whether they are linked.
-pub const LINKED: usize = ISSUANCES + SECURITIES * CSDS;
+// One more than the number of the next older link of the CSD for the security, 0 for none; the first and the last day; kind, flag, technical issuer and account.
+pub const NEXT: usize = 0;
+
+pub const FIRST: usize = 1;
+
+pub const LAST: usize = 2;
+
+pub const KIND: usize = 3;
+
+pub const FLAG: usize = 4;
+
+pub const TECHNICAL: usize = 5;
+
+pub const ACCOUNT: usize = 6;
+
+pub const LINK_NUMBERS: usize = 7;
 
 // How many numbers an index has.
-pub const INDEX: usize = LINKED + SECURITIES * CSDS * CSDS;
-
-// What stands at ROUTES for an issuer; for others it is one more than the technical issuer of the default link, and 0 without one.
-pub const ISSUER: u16 = (CSDS as u16) + 1;
+pub const INDEX: usize = LINK_ROWS + LINKS * LINK_NUMBERS;
 
 // The number at a place, 0 behind the end.
 pub fn entry(index: &[u16; INDEX], place: usize) -> u16

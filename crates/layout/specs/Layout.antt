@@ -1,4 +1,4 @@
--- The directory as five counts and 6,080 bytes, and steps as 5 bytes each. A row has the bytes of the command that enters it. Assumes nothing.
+-- The directory as five counts and 6,592 bytes, and steps as 5 bytes each. A row has the bytes of the command that enters it. Assumes nothing.
 use Prim.Native.Nat.{ℕ, zero, suc, _+_, _*_, _/_, _%_}
 use mathlib.Core.Path.{_≡_}
 use mathlib.Core.Bool.{cond, _&&_}
@@ -39,7 +39,7 @@ abbrev pub pairWidth : ℕ
 pairWidth = 8
 
 abbrev pub linkWidth : ℕ
-linkWidth = 7
+linkWidth = 11
 
 abbrev pub stepWidth : ℕ
 stepWidth = 5
@@ -165,7 +165,19 @@ pairBytes x =
     x .investor ∷ x .technical ∷ x .mirror / 256 ∷ x .mirror % 256 ∷ x .omnibus / 256 ∷ x .omnibus % 256 ∷ x .served / 256 ∷ x .served % 256 ∷ []
 
 abbrev pub linkBytes : Link → List ℕ
-linkBytes x = x .security ∷ x .kind ∷ x .csd ∷ x .technical ∷ x .flag ∷ x .account / 256 ∷ x .account % 256 ∷ []
+linkBytes x =
+    x .security
+    ∷ x .kind
+    ∷ x .csd
+    ∷ x .technical
+    ∷ x .flag
+    ∷ x .account / 256
+    ∷ x .account % 256
+    ∷ x .first / 256
+    ∷ x .first % 256
+    ∷ x .last / 256
+    ∷ x .last % 256
+    ∷ []
 
 abbrev pub stepBytes : Step → List ℕ
 stepBytes x = x .csd ∷ x .debited / 256 ∷ x .debited % 256 ∷ x .credited / 256 ∷ x .credited % 256 ∷ []

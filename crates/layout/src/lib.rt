@@ -43,7 +43,7 @@ const ACCOUNT_WIDTH: usize = 2;
 
 const PAIR_WIDTH: usize = 8;
 
-const LINK_WIDTH: usize = 7;
+const LINK_WIDTH: usize = 11;
 
 pub const STEP_WIDTH: usize = 5;
 
@@ -153,6 +153,8 @@ fn read_links(count: usize, bytes: &[u8]) -> LinkTable
         technical: 0,
         flag: 0,
         account: 0,
+        first: 0,
+        last: 0,
     }; LINKS];
     let mut i: usize = 0;
     while i < LINKS {
@@ -186,7 +188,7 @@ pub fn read_directory(counts: &[usize], bytes: &[u8]) -> Directory
     }
 }
 
-// ---- writing: byte k of a row, and each table byte by byte; pairs row by row
+// ---- writing: byte k of a row, and each table byte by byte; pairs and links row by row
 
 fn high(x: u16) -> u8
     ensures { λ r. ⌜ r ≡ x / 256 ⌝ }
@@ -225,31 +227,6 @@ fn account_byte(row: Account, k: usize) -> u8
         return row.csd;
     }
     row.kind
-}
-
-fn link_byte(row: Link, k: usize) -> u8
-    requires { ⌜ k < linkWidth ⌝ }
-    ensures { λ r. ⌜ r ≡ getD (linkBytes row) k 0 ⌝ }
-{
-    if k == 0 {
-        return row.security;
-    }
-    if k == 1 {
-        return row.kind;
-    }
-    if k == 2 {
-        return row.csd;
-    }
-    if k == 3 {
-        return row.technical;
-    }
-    if k == 4 {
-        return row.flag;
-    }
-    if k == 5 {
-        return high(row.account);
-    }
-    low(row.account)
 }
 
 fn step_byte(row: Step, k: usize) -> u8
@@ -333,14 +310,32 @@ fn write_pairs(bytes: &mut [u8], table: PairTable)
     }
 }
 
+// The bytes of a link likewise: of its days, "Both stand last in 05, 2 bytes each."
+fn put_link(bytes: &mut [u8], at: usize, row: Link)
+    requires { ⌜ at + linkWidth ≤ length (now bytes) ⌝ }
+    ensures { λ _. ⌜ Put at (at + linkWidth) (linkBytes row) (now (bytes .entry)) (now (bytes .exit)) ⌝ }
+{
+    bytes[at] = row.security;
+    bytes[at + 1] = row.kind;
+    bytes[at + 2] = row.csd;
+    bytes[at + 3] = row.technical;
+    bytes[at + 4] = row.flag;
+    bytes[at + 5] = high(row.account);
+    bytes[at + 6] = low(row.account);
+    bytes[at + 7] = high(row.first);
+    bytes[at + 8] = low(row.first);
+    bytes[at + 9] = high(row.last);
+    bytes[at + 10] = low(row.last);
+}
+
 fn write_links(bytes: &mut [u8], table: LinkTable)
     requires { ⌜ length (now bytes) ≡ rowsLength ⌝ }
     ensures { λ _. ⌜ Put linksStart rowsLength (bytesOfLinks table) (now (bytes .entry)) (now (bytes .exit)) ⌝ }
 {
-    let mut j: usize = 0;
-    while j < LINK_BYTES {
-        bytes[LINK_ROWS + j] = link_byte(table.rows[j / LINK_WIDTH], j % LINK_WIDTH);
-        j += 1;
+    let mut i: usize = 0;
+    while i < LINKS {
+        put_link(bytes, LINK_ROWS + i * LINK_WIDTH, table.rows[i]);
+        i += 1;
     }
 }
 

@@ -1,6 +1,7 @@
 // Derivation and settlement in a lent list of steps that is longer than any chain and full of other numbers. After each call the steps behind the K that
 // it writes, or all of them where it refuses, are held against what they were. The list is filled anew for each call.
 use desk::empty;
+use examples::DAY;
 use examples::after;
 use examples::csd;
 use examples::link;
@@ -58,10 +59,10 @@ fn derive(
     receiving: Half,
 ) -> Back
     requires { ⌜ lent ≤ size ⌝ }
-    ensures { λ r. ⌜ r ≡ backFrom (derivationOn directory (take lent list) (ordered delivering receiving)) (drop lent list) ⌝ }
+    ensures { λ r. ⌜ r ≡ backFrom (derivationOn directory (take lent list) (ordered delivering receiving) 0) (drop lent list) ⌝ }
 {
     let mut steps = list;
-    let answer = desk::derive(directory, &mut steps[..lent], delivering, receiving);
+    let answer = desk::derive(directory, &mut steps[..lent], delivering, receiving, DAY);
     handed_back(answer, steps)
 }
 
@@ -77,11 +78,11 @@ fn settle(
 ) -> Back
     requires { ⌜ lent ≤ size ⌝ }
     ensures { λ r. ⌜ (r
-        ≡ backFrom (settlementOn directory (now (positions .entry)) (now (cash .entry)) (take lent list) (ordered delivering receiving)) (drop lent list))
+        ≡ backFrom (settlementOn directory (now (positions .entry)) (now (cash .entry)) (take lent list) (ordered delivering receiving) 0) (drop lent list))
         × (now (positions .exit)
-        ≡ settlementOn directory (now (positions .entry)) (now (cash .entry)) (take lent list) (ordered delivering receiving) .store .positions)
+        ≡ settlementOn directory (now (positions .entry)) (now (cash .entry)) (take lent list) (ordered delivering receiving) 0 .store .positions)
         × (now (cash .exit)
-        ≡ settlementOn directory (now (positions .entry)) (now (cash .entry)) (take lent list) (ordered delivering receiving) .store .cash) ⌝ }
+        ≡ settlementOn directory (now (positions .entry)) (now (cash .entry)) (take lent list) (ordered delivering receiving) 0 .store .cash) ⌝ }
 {
     let mut steps = list;
     let answer = desk::settle(
@@ -91,6 +92,7 @@ fn settle(
         &mut steps[..lent],
         delivering,
         receiving,
+        DAY,
     );
     handed_back(answer, steps)
 }
@@ -104,10 +106,10 @@ fn derive_sided(
     second: SidedHalf,
 ) -> Back
     requires { ⌜ lent ≤ size ⌝ }
-    ensures { λ r. ⌜ r ≡ backFrom (derivationOn directory (take lent list) (sided first second)) (drop lent list) ⌝ }
+    ensures { λ r. ⌜ r ≡ backFrom (derivationOn directory (take lent list) (sided first second) 0) (drop lent list) ⌝ }
 {
     let mut steps = list;
-    let answer = desk::derive_sided(directory, &mut steps[..lent], first, second);
+    let answer = desk::derive_sided(directory, &mut steps[..lent], first, second, DAY);
     handed_back(answer, steps)
 }
 
@@ -121,9 +123,9 @@ fn settle_sided(
     second: SidedHalf,
 ) -> Back
     requires { ⌜ lent ≤ size ⌝ }
-    ensures { λ r. ⌜ (r ≡ backFrom (settlementOn directory (now (positions .entry)) (now (cash .entry)) (take lent list) (sided first second)) (drop lent list))
-        × (now (positions .exit) ≡ settlementOn directory (now (positions .entry)) (now (cash .entry)) (take lent list) (sided first second) .store .positions)
-        × (now (cash .exit) ≡ settlementOn directory (now (positions .entry)) (now (cash .entry)) (take lent list) (sided first second) .store .cash) ⌝ }
+    ensures { λ r. ⌜ (r ≡ backFrom (settlementOn directory (now (positions .entry)) (now (cash .entry)) (take lent list) (sided first second) 0) (drop lent list))
+        × (now (positions .exit) ≡ settlementOn directory (now (positions .entry)) (now (cash .entry)) (take lent list) (sided first second) 0 .store .positions)
+        × (now (cash .exit) ≡ settlementOn directory (now (positions .entry)) (now (cash .entry)) (take lent list) (sided first second) 0 .store .cash) ⌝ }
 {
     let mut steps = list;
     let answer = desk::settle_sided(
@@ -133,6 +135,7 @@ fn settle_sided(
         &mut steps[..lent],
         first,
         second,
+        DAY,
     );
     handed_back(answer, steps)
 }
@@ -377,7 +380,7 @@ fn sided_derivations(directory: Directory) {
 }
 
 fn settlements(directory: Directory, positions: &mut [i64], cash: &mut [i64]) {
-    desk::bring_in(directory, positions, 4, 0, 100);
+    desk::bring_in(directory, positions, 4, 0, 100, DAY);
     show_settle(directory, positions, cash, LIST, 40);
     show_settle(directory, positions, cash, LIST, 61);
     show_settle(directory, positions, cash, 3, 40);

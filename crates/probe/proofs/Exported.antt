@@ -31,7 +31,7 @@ use Rattle.desk.proofs.Serving as Serving
 use Rattle.layout.specs.Layout.{countsLength, rowsLength, directoryIn, countsOf, bytesOf, bytesIn, bytesOfSteps, filled, withSteps, stepsPut}
 use Rattle.layout.proofs.Bytes.{fills, steps-fit}
 use Rattle.probe.specs.Codes.{misfit, codeOf, unitsCode, centsCode}
-use Rattle.wire.specs.Operands.{halvesIn}
+use Rattle.wire.specs.Operands.{halvesIn, dayIn}
 use Rattle.probe.specs.Exports.{fits, fitsSum, isEntry, isMove, isSettlement, isDerivation, width, callIn, lending, stepsLent, readConditions, enteredBy, chainOf}
 use Rattle.probe.specs.Exports.{enters, moves, settles, derives, unitsLeft, centsLeft, Enters, Moves, Settles, Derives}
 use Rattle.probe.proofs.Read.{cut-is, none-is, read-refused, read-passed, settlement-call, derivation-call}
@@ -180,17 +180,17 @@ module _ (counts rows : List ℕ) where
       -- ---- a settlement or derivation
 
       module _ (tag : ℕ) (o steps : List ℕ) (s : width tag ≤ length o) (part : List ℕ) (g : part ≡ take (width tag) o) (hs : Halves) (u : hs ≡ halvesIn tag part)
-          (r : Reply) (code : ℕ) (bytes : List ℕ) (a : (code ≡ codeOf (r .answer)) × (bytes ≡ stepsPut (r .steps) steps)) where
-        settles-is : isSettlement tag ≡ true → (p c : List ℤ) → settlementOn d p c (stepsLent steps) hs ≡ settles tag counts rows p c o steps
+          (day : ℕ) (v : day ≡ dayIn tag part) (r : Reply) (code : ℕ) (bytes : List ℕ) (a : (code ≡ codeOf (r .answer)) × (bytes ≡ stepsPut (r .steps) steps)) where
+        settles-is : isSettlement tag ≡ true → (p c : List ℤ) → settlementOn d p c (stepsLent steps) hs day ≡ settles tag counts rows p c o steps
         unfolding settles
         settles-is t p c =
-            rw (e, u, g, ← settlement-call tag (take (width tag) o) (stepsLent steps) t)
+            rw (e, u, v, g, ← settlement-call tag (take (width tag) o) (stepsLent steps) t)
             (sym (read-passed true tag o 0 (none-is true tag o refl s) (lending (stepsLent steps) (callIn tag o)) (holding (directoryIn counts rows) p c) refl))
 
-        derives-is : isDerivation tag ≡ true → derivationOn d (stepsLent steps) hs ≡ derives tag counts rows o steps
+        derives-is : isDerivation tag ≡ true → derivationOn d (stepsLent steps) hs day ≡ derives tag counts rows o steps
         unfolding derives
         derives-is t =
-            rw (e, u, g, ← derivation-call tag (take (width tag) o) (stepsLent steps) t)
+            rw (e, u, v, g, ← derivation-call tag (take (width tag) o) (stepsLent steps) t)
             (sym (read-passed true tag o 0 (none-is true tag o refl s) (lending (stepsLent steps) (callIn tag o)) (holding (directoryIn counts rows) [] []) refl))
 
         -- the bytes of the K steps, of which there are no more than were lent
@@ -199,24 +199,24 @@ module _ (counts rows : List ℕ) where
             let l : r .steps ≡ byValue (chainOf x) = ap (λ (y : Reply). y .steps) i in
             a .1 ∙ rw l (all-steps (chainOf x) steps (rw l at few) (rw (l, length-replicate (length steps / 5) (step 0 0 0)) at room))
 
-        pub derived : isDerivation tag ≡ true → r ≡ replyOf (derivationOn d (stepsLent steps) hs) → Derives tag counts rows o steps code bytes
+        pub derived : isDerivation tag ≡ true → r ≡ replyOf (derivationOn d (stepsLent steps) hs day) → Derives tag counts rows o steps code bytes
         derived t i =
             let f : fits counts rows ≡ true = fit in
-            let v = Serving.serves (holding d [] []) hs Serving.derives (stepsLent steps) (stepsLent steps) refl r i in
-            let w = written (derivationOn d (stepsLent steps) hs) i (v .few) (v .room) in (
+            let n = Serving.serves (holding d [] []) hs day Serving.derives (stepsLent steps) (stepsLent steps) refl r i in
+            let w = written (derivationOn d (stepsLent steps) hs day) i (n .few) (n .room) in (
               rw f (a .0 ∙ ap (λ (y : Reply). codeOf (y .answer)) i ∙ ap (λ (x : Outcome). codeOf (x .answer)) (derives-is t)),
               rw f (w ∙ ap (λ (x : Outcome). withSteps (chainOf x) steps) (derives-is t)),
             )
 
         pub settled : isSettlement tag ≡ true → (positions cash p c : List ℤ)
-            → (r ≡ replyOf (settlementOn d positions cash (stepsLent steps) hs))
-            × (p ≡ settlementOn d positions cash (stepsLent steps) hs .store .positions)
-            × (c ≡ settlementOn d positions cash (stepsLent steps) hs .store .cash)
+            → (r ≡ replyOf (settlementOn d positions cash (stepsLent steps) hs day))
+            × (p ≡ settlementOn d positions cash (stepsLent steps) hs day .store .positions)
+            × (c ≡ settlementOn d positions cash (stepsLent steps) hs day .store .cash)
             → Settles tag counts rows positions cash o steps code p c bytes
         settled t positions cash p c i =
             let f : fits counts rows ≡ true = fit in
-            let v = Serving.serves (holding d positions cash) hs Serving.settles (stepsLent steps) (stepsLent steps) refl r (i .0) in
-            let w = written (settlementOn d positions cash (stepsLent steps) hs) (i .0) (v .few) (v .room) in
+            let n = Serving.serves (holding d positions cash) hs day Serving.settles (stepsLent steps) (stepsLent steps) refl r (i .0) in
+            let w = written (settlementOn d positions cash (stepsLent steps) hs day) (i .0) (n .few) (n .room) in
             let x = settles-is t positions cash in (
               rw f (a .0 ∙ ap (λ (y : Reply). codeOf (y .answer)) (i .0) ∙ ap (λ (y : Outcome). codeOf (y .answer)) x),
               rw f (i .1 ∙ ap (λ (y : Outcome). y .store .positions) x),

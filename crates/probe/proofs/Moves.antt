@@ -22,12 +22,12 @@ pub entered-by : (d : Directory) (k : Call) (x : Row) → enter x ≡ k → (r :
 entered-by d k x e r q = q ∙ ap (λ (y : Call). enteredBy (desk y (holding d [] []))) e
 
 module _ (d : Directory) (p c : List ℤ) where
-  moved-by : (n : ℕ) (w : Way) (a s q : ℕ)
-      → (outcome n (move w a s q) (holding d p []) .answer ≡ outcome n (move w a s q) (holding d p c) .answer)
-      × (outcome n (move w a s q) (holding d p []) .store .positions ≡ outcome n (move w a s q) (holding d p c) .store .positions)
-      × (c ≡ outcome n (move w a s q) (holding d p c) .store .cash)
-  moved-by zero w a s q = (refl, refl, refl)
-  moved-by (suc n) w a s q = (refl, refl, refl)
+  moved-by : (n : ℕ) (w : Way) (a s q day : ℕ)
+      → (outcome n (move w a s q day) (holding d p []) .answer ≡ outcome n (move w a s q day) (holding d p c) .answer)
+      × (outcome n (move w a s q day) (holding d p []) .store .positions ≡ outcome n (move w a s q day) (holding d p c) .store .positions)
+      × (c ≡ outcome n (move w a s q day) (holding d p c) .store .cash)
+  moved-by zero w a s q day = (refl, refl, refl)
+  moved-by (suc n) w a s q day = (refl, refl, refl)
 
   paid-by : (n : ℕ) (w : Way) (a m : ℕ)
       → (outcome n (pay w a m) (holding d [] c) .answer ≡ outcome n (pay w a m) (holding d p c) .answer)
@@ -36,18 +36,18 @@ module _ (d : Directory) (p c : List ℤ) where
   paid-by zero w a m = (refl, refl, refl)
   paid-by (suc n) w a m = (refl, refl, refl)
 
-  moved-like : (w : Way) (a s q : ℕ) → Leaves (move w a s q) (holding d p c) (movementOn d p w a s q .answer) (movementOn d p w a s q .store .positions) c
+  moved-like : (w : Way) (a s q day : ℕ) → Leaves (move w a s q day) (holding d p c) (movementOn d p w a s q day .answer) (movementOn d p w a s q day .store .positions) c
   unfolding desk misfit
-  moved-like w a s q = moved-by (firstOf (deskConditions (move w a s q) (holding d p c))) w a s q
+  moved-like w a s q day = moved-by (firstOf (deskConditions (move w a s q day) (holding d p c))) w a s q day
 
   paid-like : (w : Way) (a m : ℕ) → Leaves (pay w a m) (holding d p c) (paymentOn d c w a m .answer) p (paymentOn d c w a m .store .cash)
   unfolding desk misfit
   paid-like w a m = paid-by (firstOf (deskConditions (pay w a m) (holding d p c))) w a m
 
   module _ (k : Call) (r : Answer) (l : List ℤ) where
-    pub moved : (w : Way) (a s q : ℕ) → move w a s q ≡ k → (r ≡ movementOn d p w a s q .answer) × (l ≡ movementOn d p w a s q .store .positions) → Leaves k (holding d p c) r l c
-    moved w a s q e f =
-        let m = moved-like w a s q in (
+    pub moved : (w : Way) (a s q day : ℕ) → move w a s q day ≡ k → (r ≡ movementOn d p w a s q day .answer) × (l ≡ movementOn d p w a s q day .store .positions) → Leaves k (holding d p c) r l c
+    moved w a s q day e f =
+        let m = moved-like w a s q day in (
           f .0 ∙ m .0 ∙ ap (λ (x : Call). desk x (holding d p c) .answer) e,
           f .1 ∙ m .1 ∙ ap (λ (x : Call). desk x (holding d p c) .store .positions) e,
           m .2 ∙ ap (λ (x : Call). desk x (holding d p c) .store .cash) e,

@@ -21,7 +21,7 @@ use Rattle.rules.proofs.Conditions.{first-before, first-after}
 use Rattle.wire.specs.declared.commands.Width.the-variants.{Bytes, NoCommand}
 use Rattle.wire.specs.Commands.{widthIn}
 use Rattle.wire.proofs.Widths.{width-is}
-use Rattle.wire.specs.Operands.{halvesIn}
+use Rattle.wire.specs.Operands.{halvesIn, dayIn}
 use Rattle.probe.specs.Exports.{isEntry, isMove, isSettlement, isDerivation, asked, width, lending, readConditions, obeyed}
 
 -- ---- the two numbers
@@ -115,18 +115,18 @@ derivation-tag tag e = go (or-cases (eqb tag 11) (eqb tag 13) e)
     go (inl k) = inl (eqb-is tag 11 k)
     go (inr k) = inr (eqb-is tag 13 k)
 
-pub settlement-call : (tag : ℕ) (o : List ℕ) (xs : List Step) → isSettlement tag ≡ true → lending xs (callOf tag o) ≡ settle (halvesIn tag o) xs
+pub settlement-call : (tag : ℕ) (o : List ℕ) (xs : List Step) → isSettlement tag ≡ true → lending xs (callOf tag o) ≡ settle (halvesIn tag o) (dayIn tag o) xs
 unfolding callOf
 settlement-call tag o xs e = go (settlement-tag tag e)
   where
-    go : (tag ≡ 10) ⊎ (tag ≡ 12) → lending xs (callOf tag o) ≡ settle (halvesIn tag o) xs
+    go : (tag ≡ 10) ⊎ (tag ≡ 12) → lending xs (callOf tag o) ≡ settle (halvesIn tag o) (dayIn tag o) xs
     go (inl k) = rw k
     go (inr k) = rw k
 
-pub derivation-call : (tag : ℕ) (o : List ℕ) (xs : List Step) → isDerivation tag ≡ true → lending xs (callOf tag o) ≡ derive (halvesIn tag o) xs
+pub derivation-call : (tag : ℕ) (o : List ℕ) (xs : List Step) → isDerivation tag ≡ true → lending xs (callOf tag o) ≡ derive (halvesIn tag o) (dayIn tag o) xs
 unfolding callOf
 derivation-call tag o xs e = go (derivation-tag tag e)
   where
-    go : (tag ≡ 11) ⊎ (tag ≡ 13) → lending xs (callOf tag o) ≡ derive (halvesIn tag o) xs
+    go : (tag ≡ 11) ⊎ (tag ≡ 13) → lending xs (callOf tag o) ≡ derive (halvesIn tag o) (dayIn tag o) xs
     go (inl k) = rw k
     go (inr k) = rw k

@@ -23,7 +23,7 @@ use Rattle.probe.specs.Codes.{misfit, codeOf, unitsCode, centsCode}
 
 -- ---- what is handed in
 
--- five counts and 6,080 bytes stand for a directory
+-- five counts and 6,592 bytes stand for a directory
 abbrev pub fits : List ℕ → List ℕ → Bool
 fits counts rows = eqb (length counts) countsLength && eqb (length rows) rowsLength
 
@@ -63,10 +63,10 @@ callIn tag o = callOf tag (take (width tag) o)
 -- the call with the step list that it is lent
 abbrev pub lending : List Step → Call → Call
 lending xs (enter x) = enter x
-lending xs (move w a s q) = move w a s q
+lending xs (move w a s q day) = move w a s q day
 lending xs (pay w a m) = pay w a m
-lending xs (settle hs lent) = settle hs xs
-lending xs (derive hs lent) = derive hs xs
+lending xs (settle hs day lent) = settle hs day xs
+lending xs (derive hs day lent) = derive hs day xs
 
 -- a step for each five bytes lent; what they hold counts for nothing
 abbrev pub stepsLent : List ℕ → List Step
@@ -78,7 +78,7 @@ stepsLent steps = blanks (length steps / stepWidth)
 abbrev pub readConditions : Bool → ℕ → List ℕ → List Condition
 readConditions known tag o = 1 when not known ∷ 2 when ltb (length o) (width tag) ∷ []
 
--- 1 and 2, then the call's own 3 to 22
+-- 1 and 2, then the call's own from 3 on
 unfoldable pub obeyed : Bool → ℕ → List ℕ → Call → Store → Outcome
 obeyed known tag o k st = outcome (firstOf (readConditions known tag o ++ deskConditions k st)) k st
 

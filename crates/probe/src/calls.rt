@@ -28,7 +28,7 @@ ghost use Rattle.rules.specs.Tests.{firstOf};
 ghost use Rattle.rules.specs.Calls.{desk, isAccepted};
 ghost use Rattle.rules.specs.Stream.{widthOf, callOf, transcript, Printed};
 ghost use Rattle.rules.specs.Outcomes.{holding, settlementOn, derivationOn, blanks, replyOf};
-ghost use Rattle.wire.specs.Operands.{halvesIn};
+ghost use Rattle.wire.specs.Operands.{halvesIn, dayIn};
 ghost use Rattle.layout.specs.Layout.{stepsPut};
 ghost use Rattle.probe.specs.Codes.{capped, codeOf};
 ghost use Rattle.probe.specs.Exports.{isEntry, isMove, isSettlement, isDerivation, width, readConditions, enteredBy};
@@ -167,11 +167,25 @@ fn movement(
 {
     if tag == 6 {
         let x = operands::decode_move(operands);
-        return desk::bring_in(directory, positions, x.account, x.security, x.quantity);
+        return desk::bring_in(
+            directory,
+            positions,
+            x.account,
+            x.security,
+            x.quantity,
+            x.day,
+        );
     }
     if tag == 7 {
         let x = operands::decode_move(operands);
-        return desk::take_out(directory, positions, x.account, x.security, x.quantity);
+        return desk::take_out(
+            directory,
+            positions,
+            x.account,
+            x.security,
+            x.quantity,
+            x.day,
+        );
     }
     let x = operands::decode_payment(operands);
     if tag == 8 {
@@ -209,7 +223,7 @@ pub extern "C" fn fluzzam_move(
 
 // ---- 0A to 0D
 
-// Two halves booked, delivering first or with their sides, as the byte has them.
+// Two halves booked on their day, delivering first or with their sides, as the byte has them.
 fn settled(
     directory: Directory,
     positions: &mut [i64],
@@ -218,34 +232,41 @@ fn settled(
     tag: u8,
     operands: &[u8],
 ) -> Reply
-    ensures { λ r. ⌜ (r ≡ replyOf (settlementOn directory (now (positions .entry)) (now (cash .entry)) (blanks lent) (halvesIn tag (now (operands .entry)))))
+    ensures { λ r. ⌜ (r ≡ replyOf (settlementOn directory (now (positions .entry)) (now (cash .entry)) (blanks lent) (halvesIn tag (now (operands .entry)))
+        (dayIn tag (now (operands .entry)))))
         × (now (positions .exit)
-        ≡ settlementOn directory (now (positions .entry)) (now (cash .entry)) (blanks lent) (halvesIn tag (now (operands .entry))) .store .positions)
+        ≡ settlementOn directory (now (positions .entry)) (now (cash .entry)) (blanks lent) (halvesIn tag (now (operands .entry)))
+        (dayIn tag (now (operands .entry))) .store .positions)
         × (now (cash .exit)
-        ≡ settlementOn directory (now (positions .entry)) (now (cash .entry)) (blanks lent) (halvesIn tag (now (operands .entry))) .store .cash) ⌝ }
+        ≡ settlementOn directory (now (positions .entry)) (now (cash .entry)) (blanks lent) (halvesIn tag (now (operands .entry)))
+        (dayIn tag (now (operands .entry))) .store .cash) ⌝ }
 {
     if tag < 12 {
         let delivering = operands::decode_delivering(operands);
         let receiving = operands::decode_receiving(operands);
-        return desk::settle_reply(directory, positions, cash, lent, delivering, receiving);
+        let day = operands::decode_day(operands);
+        return desk::settle_reply(directory, positions, cash, lent, delivering, receiving, day);
     }
     let first = operands::decode_first(operands);
     let second = operands::decode_second(operands);
-    desk::settle_sided_reply(directory, positions, cash, lent, first, second)
+    let day = operands::decode_sided_day(operands);
+    desk::settle_sided_reply(directory, positions, cash, lent, first, second, day)
 }
 
 // Their chain only.
 fn derived(directory: Directory, lent: usize, tag: u8, operands: &[u8]) -> Reply
-    ensures { λ r. ⌜ r ≡ replyOf (derivationOn directory (blanks lent) (halvesIn tag (now (operands .entry)))) ⌝ }
+    ensures { λ r. ⌜ r ≡ replyOf (derivationOn directory (blanks lent) (halvesIn tag (now (operands .entry))) (dayIn tag (now (operands .entry)))) ⌝ }
 {
     if tag < 12 {
         let delivering = operands::decode_delivering(operands);
         let receiving = operands::decode_receiving(operands);
-        return desk::derive_reply(directory, lent, delivering, receiving);
+        let day = operands::decode_day(operands);
+        return desk::derive_reply(directory, lent, delivering, receiving, day);
     }
     let first = operands::decode_first(operands);
     let second = operands::decode_second(operands);
-    desk::derive_sided_reply(directory, lent, first, second)
+    let day = operands::decode_sided_day(operands);
+    desk::derive_sided_reply(directory, lent, first, second, day)
 }
 
 fn replied(steps: &mut [u8], reply: Reply) -> u64

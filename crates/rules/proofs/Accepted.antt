@@ -8,7 +8,7 @@ use lib.Dec.{eqb, ltb}
 use lib.ListN.{length}
 use Rattle.rules.specs.Types.{Half, Step}
 use Rattle.rules.specs.Tests.{isRow, _when_, firstOf}
-use Rattle.rules.specs.Directory.{Rows, rowsOf, isKind}
+use Rattle.rules.specs.Directory.{Rows, rowsOf, rowsOn, isKind}
 use Rattle.rules.specs.Entries.{sound}
 use Rattle.rules.specs.Lookups.{homeOf, ask}
 use Rattle.rules.specs.Chain.{chained, stepsOf, chainConditions, stepLimit}
@@ -33,7 +33,7 @@ use Rattle.rules.proofs.Moves.{source, target, moveSteps, holder-plain,
 pub books-sound : (c : Call) (st : Store) → firstOf (deskConditions c st) ≡ 0 → sound (st .directory) ≡ true
 books-sound c st free = unnot-false (sound (st .directory)) (desk-quiet c st free .1 .0)
 
-pub facts-of : (c : Call) (st : Store) → firstOf (deskConditions c st) ≡ 0 → Facts (rowsOf (st .directory))
+pub facts-of : (c : Call) (st : Store) → firstOf (deskConditions c st) ≡ 0 → (day : ℕ) → Facts (rowsOn day (st .directory))
 facts-of c st free = sound-gives (st .directory) (books-sound c st free)
 
 pub core-free : (c : Call) (st : Store) → firstOf (deskConditions c st) ≡ 0 → firstOf (coreConditions c st) ≡ 0
@@ -43,14 +43,14 @@ fitting : (n most : ℕ) → not (eqb n most) ≡ false → n ≡ most
 fitting n most e = eqb-is n most (unnot-false (eqb n most) e)
 
 -- ---- a bring-in or take-out
-pub record MoveFacts (st : Store) (w : Way) (a s q : ℕ) : Type 0 where
+pub record MoveFacts (st : Store) (w : Way) (a s q day : ℕ) : Type 0 where
   pub size : length (st .positions) ≡ positionCount
   pub holder : isKind (rowsOf (st .directory) .accounts) a 0 ≡ true
   pub other : ℕ
-  pub found : contra (ask (rowsOf (st .directory))) s (homeOf (rowsOf (st .directory) .accounts) a) a ≡ some other
-  pub against : Contra (rowsOf (st .directory)) a other
-  pub chain : stepsOf (moveChain (ask (rowsOf (st .directory))) w a s) ≡ moveSteps (rowsOf (st .directory)) w a other
-  pub transfer : Transfer (rowsOf (st .directory)) (st .positions) (source w a other) (moveSteps (rowsOf (st .directory)) w a other) (target w a other) s q
+  pub found : contra (ask (rowsOn day (st .directory))) s (homeOf (rowsOn day (st .directory) .accounts) a) a ≡ some other
+  pub against : Contra (rowsOn day (st .directory)) a other
+  pub chain : stepsOf (moveChain (ask (rowsOn day (st .directory))) w a s) ≡ moveSteps (rowsOn day (st .directory)) w a other
+  pub transfer : Transfer (rowsOn day (st .directory)) (st .positions) (source w a other) (moveSteps (rowsOn day (st .directory)) w a other) (target w a other) s q
 
 -- its chain is one step against the contra account
 move-chain : (r : Rows) (w : Way) (a s : ℕ) (xs : List Step) → moveChain (ask r) w a s ≡ chained xs
@@ -63,9 +63,9 @@ move-chain r w a s xs e = go (contra (ask r) s (homeOf (r .accounts) a) a) refl 
     go none f c = impossible (cc)
     go (some u) f c = (u, f, sym (ap stepsOf c))
 
-pub move-facts : (st : Store) (w : Way) (a s q : ℕ) → firstOf (deskConditions (move w a s q) st) ≡ 0 → MoveFacts st w a s q
+pub move-facts : (st : Store) (w : Way) (a s q day : ℕ) → firstOf (deskConditions (move w a s q day) st) ≡ 0 → MoveFacts st w a s q day
 unfolding misfit
-move-facts st w a s q free =
+move-facts st w a s q day free =
     record {
       size = fitting (length (st .positions)) positionCount (all .0);
       holder = holder;
@@ -83,13 +83,13 @@ move-facts st w a s q free =
     }
   where
     rows : Rows
-    rows = rowsOf (st .directory)
+    rows = rowsOn day (st .directory)
 
-    all : Quiet (deskConditions (move w a s q) st)
-    all = desk-quiet (move w a s q) st free
+    all : Quiet (deskConditions (move w a s q day) st)
+    all = desk-quiet (move w a s q day) st free
 
     facts : Facts rows
-    facts = facts-of (move w a s q) st free
+    facts = facts-of (move w a s q day) st free day
 
     holder : isKind (rows .accounts) a 0 ≡ true
     holder = unnot-false (isKind (rows .accounts) a 0) (all .1 .1 .1 .1 .0)
@@ -121,26 +121,26 @@ pay-facts st w a m free =
     let all : Quiet (deskConditions (pay w a m) st) = desk-quiet (pay w a m) st free in
     record {
       size = fitting (length (st .cash)) cashCount (all .0);
-      account = kind-small rows (facts-of (pay w a m) st free) a 0 (unnot-false (isKind (rows .accounts) a 0) (all .1 .1 .1 .1 .0));
+      account = kind-small (rowsOn 0 (st .directory)) (facts-of (pay w a m) st free 0) a 0 (unnot-false (isKind (rows .accounts) a 0) (all .1 .1 .1 .1 .0));
       covered = all .1 .1 .1 .1 .1 .0;
     }
 
 -- ---- a settlement
-pub record SettleFacts (st : Store) (hs : Halves) (steps : List Step) : Type 0 where
+pub record SettleFacts (st : Store) (hs : Halves) (day : ℕ) (steps : List Step) : Type 0 where
   pub positions : length (st .positions) ≡ positionCount
   pub cash : length (st .cash) ≡ cashCount
   pub sides : Delivers hs (delivering hs) (receiving hs)
   pub agree : Agreed (rowsOf (st .directory)) (delivering hs) (receiving hs)
-  pub chain : halvesChain (ask (rowsOf (st .directory))) hs ≡ chained steps
+  pub chain : halvesChain (ask (rowsOn day (st .directory))) hs ≡ chained steps
   pub allowed : Permitted st (delivering hs) (receiving hs) steps
-  pub transfer : Transfer (rowsOf (st .directory)) (st .positions) (delivering hs .account) steps (receiving hs .account) (delivering hs .security) (delivering hs .quantity)
+  pub transfer : Transfer (rowsOn day (st .directory)) (st .positions) (delivering hs .account) steps (receiving hs .account) (delivering hs .security) (delivering hs .quantity)
   pub payer : receiving hs .account < cashCount
   pub payee : delivering hs .account < cashCount
 
-pub settle-facts : (st : Store) (hs : Halves) (lent : List Step) → firstOf (deskConditions (settle hs lent) st) ≡ 0
-    → SettleFacts st hs (stepsOf (halvesChain (ask (rowsOf (st .directory))) hs))
+pub settle-facts : (st : Store) (hs : Halves) (day : ℕ) (lent : List Step) → firstOf (deskConditions (settle hs day lent) st) ≡ 0
+    → SettleFacts st hs day (stepsOf (halvesChain (ask (rowsOn day (st .directory))) hs))
 unfolding misfit
-settle-facts st hs lent free =
+settle-facts st hs day lent free =
     record {
       positions = fitting (length (st .positions)) positionCount (lists .0);
       cash = fitting (length (st .cash)) cashCount (lists .1 .0);
@@ -160,7 +160,7 @@ settle-facts st hs lent free =
     }
   where
     rows : Rows
-    rows = rowsOf (st .directory)
+    rows = rowsOn day (st .directory)
 
     h : Half
     h = delivering hs
@@ -171,11 +171,11 @@ settle-facts st hs lent free =
     steps : List Step
     steps = stepsOf (halvesChain (ask rows) hs)
 
-    all : Quiet (deskConditions (settle hs lent) st)
-    all = desk-quiet (settle hs lent) st free
+    all : Quiet (deskConditions (settle hs day lent) st)
+    all = desk-quiet (settle hs day lent) st free
 
     facts : Facts rows
-    facts = facts-of (settle hs lent) st free
+    facts = facts-of (settle hs day lent) st free day
 
     lists : (not (eqb (length (st .positions)) positionCount) ≡ false) × ((not (eqb (length (st .cash)) cashCount) ≡ false) × (ltb (length lent) stepLimit ≡ false))
     lists = none-hold (not (eqb (length (st .positions)) positionCount)) (not (eqb (length (st .cash)) cashCount) ∷ ltb (length lent) stepLimit ∷ []) (all .0)
@@ -186,8 +186,8 @@ settle-facts st hs lent free =
     before : Quiet (halvesConditions (ask rows) hs) × Quiet (chainConditions (halvesChain (ask rows) hs))
     before = quiet-both (halvesConditions (ask rows) hs) (chainConditions (halvesChain (ask rows) hs)) (parts .0)
 
-    agree : Agreed rows h g
-    agree = quiet-agree rows h g (sideUnknown hs) (sameSide hs) (before .0)
+    agree : Agreed (rowsOf (st .directory)) h g
+    agree = quiet-agree (rowsOf (st .directory)) h g (sideUnknown hs) (sameSide hs) (before .0)
 
     allowed : Permitted st h g steps
     allowed = quiet-allowed st h g steps (parts .1)

@@ -5,7 +5,7 @@ use mathlib.Core.List.{List}
 use Prim.Native.Nat.{ℕ}
 use Rattle.rules.specs.Types.{Step}
 use Rattle.rules.specs.Tests.{firstOf}
-use Rattle.rules.specs.Directory.{Rows, rowsOf}
+use Rattle.rules.specs.Directory.{Rows, rowsOf, rowsOn}
 use Rattle.rules.specs.Entries.{addRow, rowConditions}
 use Rattle.rules.specs.Lookups.{homeOf}
 use Rattle.rules.specs.Booking.{Way, booked, payment}
@@ -25,20 +25,20 @@ module _ (st : Store) where
   abbrev rows : Rows
   rows = rowsOf (st .directory)
 
-  move-changes : (w : Way) (a s q : ℕ) → firstOf (deskConditions (move w a s q) st) ≡ 0 → Changes (move w a s q) st (desk (move w a s q) st .store)
-  move-changes w a s q free =
-      (ap (λ (o : Outcome). o .store .directory) left, (M .other, rw (M .found) at (contra-found rows (facts-of (move w a s q) st free) s (homeOf (rows .accounts) a) a), units), ap (λ (o : Outcome). o .store .cash) left)
+  move-changes : (w : Way) (a s q day : ℕ) → firstOf (deskConditions (move w a s q day) st) ≡ 0 → Changes (move w a s q day) st (desk (move w a s q day) st .store)
+  move-changes w a s q day free =
+      (ap (λ (o : Outcome). o .store .directory) left, (M .other, rw (M .found) at (contra-found (rowsOn day (st .directory)) (facts-of (move w a s q day) st free day) s (homeOf (rows .accounts) a) a), units), ap (λ (o : Outcome). o .store .cash) left)
     where
-      left : desk (move w a s q) st ≡ outcome 0 (move w a s q) st
-      left = desk-clear (move w a s q) st free
+      left : desk (move w a s q day) st ≡ outcome 0 (move w a s q day) st
+      left = desk-clear (move w a s q day) st free
 
-      M : MoveFacts st w a s q
-      M = move-facts st w a s q free
+      M : MoveFacts st w a s q day
+      M = move-facts st w a s q day free
 
-      units : MovedUnits (moveSteps rows w a (M .other)) s q (st .positions) (desk (move w a s q) st .store .positions)
+      units : MovedUnits (moveSteps (rowsOn day (st .directory)) w a (M .other)) s q (st .positions) (desk (move w a s q day) st .store .positions)
       units =
           rw (ap (λ (o : Outcome). o .store .positions) left ∙ ap (λ (xs : List Step). booked xs s q (st .positions)) (M .chain))
-          (transfer-moves rows (st .positions) (source w a (M .other)) (moveSteps rows w a (M .other)) (target w a (M .other)) s q (M .size) (M .transfer))
+          (transfer-moves (rowsOn day (st .directory)) (st .positions) (source w a (M .other)) (moveSteps (rowsOn day (st .directory)) w a (M .other)) (target w a (M .other)) s q (M .size) (M .transfer))
 
   pay-changes : (w : Way) (a m : ℕ) → firstOf (deskConditions (pay w a m) st) ≡ 0 → Changes (pay w a m) st (desk (pay w a m) st .store)
   pay-changes w a m free =
@@ -57,11 +57,11 @@ module _ (st : Store) where
         ap (λ (o : Outcome). o .store .positions) left,
         ap (λ (o : Outcome). o .store .cash) left,
       )
-  unrefused-changes (move w a s q) free = move-changes w a s q free
+  unrefused-changes (move w a s q day) free = move-changes w a s q day free
   unrefused-changes (pay w a m) free = pay-changes w a m free
-  unrefused-changes (settle hs lent) free =
-      (delivering hs, receiving hs, chainFor (settle hs lent) st, settle-facts st hs lent free .sides, booked-pair st hs lent free)
-  unrefused-changes (derive hs lent) free = ap (λ (o : Outcome). o .store) (desk-clear (derive hs lent) st free)
+  unrefused-changes (settle hs day lent) free =
+      (delivering hs, receiving hs, chainFor (settle hs day lent) st, settle-facts st hs day lent free .sides, booked-pair st hs day lent free)
+  unrefused-changes (derive hs day lent) free = ap (λ (o : Outcome). o .store) (desk-clear (derive hs day lent) st free)
 
 pub changes : (c : Call) (st : Store) → isAccepted (desk c st .answer) ≡ true → Changes c st (desk c st .store)
 changes c st e = unrefused-changes st c (accepted-free c st e)

@@ -62,7 +62,7 @@ module _ (cs : List Csd) (x : Csd) where
   pub csd-renders : Renders (CsdRefused cs x) (csdConditions (isFull csdLimit cs) (bicEntered cs) x) entryPlaces
   csd-renders =
       test full (λ e5. skip {m = 6} (λ p. elim p [ ]) (test form (λ e7. skip {m = 8} (λ p. elim p [ ]) (test twice (λ e9.
-      skip {m = 10} (λ p. elim p [ ]) (skip {m = 11} (λ p. elim p [ ]) (behind (λ n p. elim p [ ]))))))))
+      skip {m = 10} (λ p. elim p [ ]) (skip {m = 24} (λ p. elim p [ ]) (skip {m = 11} (λ p. elim p [ ]) (behind (λ n p. elim p [ ])))))))))
 
 -- ---- 02
 module _ (ss : List Security) (x : Security) where
@@ -106,7 +106,7 @@ module _ (ss : List Security) (x : Security) where
   pub security-renders : Renders (SecurityRefused ss x) (securityConditions (isFull securityLimit ss) (isinEntered ss) x) entryPlaces
   security-renders =
       test security-full (λ e5. skip {m = 6} (λ p. elim p [ ]) (test isin-form (λ e7. test (check-digit e7) (λ e8. test isin-twice (λ e9.
-      skip {m = 10} (λ p. elim p [ ]) (skip {m = 11} (λ p. elim p [ ]) (behind (λ n p. elim p [ ]))))))))
+      skip {m = 10} (λ p. elim p [ ]) (skip {m = 24} (λ p. elim p [ ]) (skip {m = 11} (λ p. elim p [ ]) (behind (λ n p. elim p [ ])))))))))
 
 -- ---- 03
 module _ (cs : List Csd) (acc : List Account) (x : Account) where
@@ -138,4 +138,4 @@ module _ (cs : List Csd) (acc : List Account) (x : Account) where
       → Renders (AccountRefused cs acc x) (accountConditions (ask (record { csds = cs; securities = ss; accounts = acc; pairs = ps; links = ls })) x) entryPlaces
   account-renders ss ps ls =
       test account-full (λ e5. test home-row (λ e6. test kind-range (λ e7. skip {m = 8} (λ p. elim p [ ]) (skip {m = 9} (λ p. elim p [ ])
-      (test home-outside (λ e10. skip {m = 11} (λ p. elim p [ ]) (behind (λ n p. elim p [ ]))))))))
+      (test home-outside (λ e10. skip {m = 24} (λ p. elim p [ ]) (skip {m = 11} (λ p. elim p [ ]) (behind (λ n p. elim p [ ])))))))))

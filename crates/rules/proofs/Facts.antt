@@ -1,4 +1,4 @@
--- What a sound directory gives: one record of named facts for everybody above.
+-- What the rows of a day of a sound directory give: one record of named facts for everybody above. Links have days, the other rows have none.
 use mathlib.Core.Path.{_≡_}
 use mathlib.Core.Logic.{_≢_, _⊎_}
 use mathlib.Core.Bool.{true, false}
@@ -58,7 +58,6 @@ pub record Facts (r : Rows) : Type 0 where
   pub fewSecurities : length (r .securities) ≤ securityLimit
   pub fewAccounts : length (r .accounts) ≤ accountLimit
   pub fewPairs : length (r .pairs) ≤ pairLimit
-  pub fewLinks : length (r .links) ≤ linkLimit
   -- an account's CSD is entered, and in T2S
   pub homeRow : (a c : ℕ) → inBooks (r .accounts) a c ≡ true → isRow (r .csds) c ≡ true
   pub homes : (a c : ℕ) → inBooks (r .accounts) a c ≡ true → external (r .csds) c ≡ false
@@ -67,9 +66,7 @@ pub record Facts (r : Rows) : Type 0 where
   pub onePair : (p q : Pair) → List·Memᴰ p (r .pairs) → List·Memᴰ q (r .pairs) → p .investor ≡ q .investor → p .technical ≡ q .technical → p .served ≡ q .served → p ≡ q
   pub oneDuo : (p q : Pair) → List·Memᴰ p (r .pairs) → List·Memᴰ q (r .pairs) → (a : ℕ) → a ≢ noAccount → uses a p ≡ true → uses a q ≡ true → SharesBoth p q
   pub links : (l : Link) → List·Memᴰ l (r .links) → LinkFacts r l
-  -- beside an issuer link stands no other of its CSD for the security; one default link; one link to a technical issuer
+  -- beside an issuer link stands no other of its CSD for the security; one default link
   pub oneIssuer : (l k : Link) → List·Memᴰ l (r .links) → List·Memᴰ k (r .links) → l .kind ≡ 0 → l .security ≡ k .security → l .csd ≡ k .csd → l ≡ k
   pub oneDefault : (l k : Link) → List·Memᴰ l (r .links) → List·Memᴰ k (r .links) → l .kind ≡ 1 → k .kind ≡ 1 → l .flag ≡ 1 → k .flag ≡ 1
       → l .security ≡ k .security → l .csd ≡ k .csd → l ≡ k
-  pub oneTechnical : (l k : Link) → List·Memᴰ l (r .links) → List·Memᴰ k (r .links) → l .kind ≡ 1 → k .kind ≡ 1
-      → l .security ≡ k .security → l .csd ≡ k .csd → l .technical ≡ k .technical → l ≡ k

@@ -75,9 +75,9 @@ module _ (r : Rows) (h : Half) where
 
 -- ---- two halves
 
--- a number of the halves: it stands before 14
+-- a number of an entry or of the halves: its place is before 14
 abbrev pub Early : ℕ → Type 0
-Early n = (n ≤ 13) ⊎ (n ≡ 23)
+Early n = (n ≤ 13) ⊎ (23 ≤ n)
 
 module _ (r : Rows) (hs : Halves) where
   abbrev h : Half
@@ -215,7 +215,7 @@ module _ (r : Rows) (hs : Halves) where
     where
       go : (n ≡ 7) ⊎ (n ≡ 23) → Early n
       go (inl e) = inl (omega arith)
-      go (inr e) = inr e
+      go (inr e) = inr (omega arith)
   halves-early n (Refusals.both k l d (Refusals.securities x)) = inl (omega arith)
   halves-early n (Refusals.both k l d (Refusals.quantities x)) = inl (omega arith)
   halves-early n (Refusals.both k l d (Refusals.amounts x)) = inl (omega arith)

@@ -61,10 +61,10 @@ unchanged c x st = record { positions = refl; cash = refl }
 
 refused-changed : (c : Call) (n : ℕ) (r : Rows) (st : Store) → Changed c r (item c (Refused n) st st)
 refused-changed (enter x) n r st = unchanged (enter x) (Refused n) st
-refused-changed (move w a s q) n r st = unchanged (move w a s q) (Refused n) st
+refused-changed (move w a s q day) n r st = unchanged (move w a s q day) (Refused n) st
 refused-changed (pay w a m) n r st = unchanged (pay w a m) (Refused n) st
-refused-changed (settle hs lent) n r st = unchanged (settle hs lent) (Refused n) st
-refused-changed (derive hs lent) n r st = unchanged (derive hs lent) (Refused n) st
+refused-changed (settle hs day lent) n r st = unchanged (settle hs day lent) (Refused n) st
+refused-changed (derive hs day lent) n r st = unchanged (derive hs day lent) (Refused n) st
 
 pub refused-keeps : (c : Call) (n : ℕ) (items : List Item) (st : Store) → Kept items st → Kept (item c (Refused n) st st ∷ items) st
 unfolding made brought paidIn
@@ -102,10 +102,10 @@ pairs-stay (enter (securityRow x)) r p m = m
 pairs-stay (enter (accountRow x)) r p m = m
 pairs-stay (enter (pairRow x)) r p m = Memᴰ·append-left (x ∷ []) m
 pairs-stay (enter (linkRow x)) r p m = m
-pairs-stay (move w a s q) r p m = m
+pairs-stay (move w a s q day) r p m = m
 pairs-stay (pay w a m′) r p m = m
-pairs-stay (settle hs lent) r p m = m
-pairs-stay (derive hs lent) r p m = m
+pairs-stay (settle hs day lent) r p m = m
+pairs-stay (derive hs day lent) r p m = m
 
 pair-added : (c : Call) (r : Rows) (p : Pair) → c ≡ enter (pairRow p) → List·Memᴰ p (grown c r .pairs)
 pair-added c r p e = rw e (Memᴰ·append-right (r .pairs) (List·Memᴰ·head refl))

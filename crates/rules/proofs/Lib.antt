@@ -5,6 +5,7 @@ pub mod Several
 pub mod Reflection
 pub mod Places
 pub mod RowTests
+pub mod Days
 pub mod IdentifierRelation
 pub mod EntryRelation
 pub mod PairRelation
@@ -76,5 +77,6 @@ pub mod Lists
 pub mod SidesWritten
 pub mod Running
 pub mod Segregated
+pub mod Dated
 pub mod Theorems
 pub mod Logs

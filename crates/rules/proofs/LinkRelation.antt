@@ -1,26 +1,27 @@
 -- The conditions of a link's entry render the relation.
-use mathlib.Core.Path.{_≡_}
+use mathlib.Core.Path.{_≡_, refl}
 use mathlib.Core.Logic.{_≢_, _⊎_, inl, inr}
 use mathlib.Core.Bool.{Bool, true, false, not, _&&_, _||_, cond}
-use mathlib.Core.List.{List, [], _∷_}
-use Prim.Native.Nat.{ℕ, _≤_}
+use mathlib.Core.List.{List, [], _∷_, List·Memᴰ}
+use Prim.Native.Nat.{ℕ, _≤_, _<_}
 use native.Mathlib.Omega.{arith}
 use lib.Dec.{eqb, ltb}
 use lib.ListN.{length}
 use Rattle.rules.specs.Types.{Csd, Security, Account, Pair, Link}
 use Rattle.rules.specs.Tests.{isRow, isFull}
-use Rattle.rules.specs.Directory.{Rows, linkLimit, noCsd, noAccount, external, isKind, inBooks, hasLink, hasIssuer, hasInvestor}
+use Rattle.rules.specs.Directory.{Rows, linkLimit, noCsd, noAccount, external, isKind, inBooks, issues, defaults, pointsTo, linksFor, covers}
 use Rattle.rules.specs.Lookups.{ask}
-use Rattle.rules.specs.Entries.{technicalUnknown, accountUnknown, technicalEntered, wrongIssuance, issuerBroken, flagBroken, alternativeOutside, investorBroken, linkUnknown, linkConditions}
-use Rattle.rules.specs.Relations.{Is, External, InT2S, IssuerOf, LinkTo}
+use Rattle.rules.specs.Entries.{meets, anyLink, dayCount, defaultEachDay, technicalUnknown, accountUnknown, technicalEntered, wrongIssuance, issuerBroken, flagBroken, alternativeOutside, investorBroken, linkUnknown, linkConditions}
+use Rattle.rules.specs.Relations.{Is, External, InT2S, IssuerOf, DefaultOf, LinkTo}
 use Rattle.rules.specs.Refusals
-use Rattle.rules.specs.Refusals.{NoRow, Linked, LinkRefused}
+use Rattle.rules.specs.Refusals.{NoRow, Linked, ValidOn, ShareDay, LinkRefused}
 use Rattle.rules.proofs.Basics.{and-both, and-true, and-first, or-none, or-right, eqb-is, eqb-true, ltb-not}
 use Rattle.rules.proofs.Several.{none-hold}
-use Rattle.rules.proofs.Reflection.{Says, says-as, says-not, says-or, says-and, says-cond, says-eq, says-ne}
-use Rattle.rules.proofs.Places.{Renders, skip, test, entryPlaces}
-use Rattle.rules.proofs.RowTests.{says-no-row, says-full, known, says-external, says-other-account, says-any-link, says-issuer, says-investor, says-link-to}
-use Rattle.rules.proofs.EntryRelation.{behind, says-neither}
+use Rattle.rules.proofs.Reflection.{Says, says-as, says-not, says-or, says-and, says-cond, says-eq, says-ne, says-lt}
+use Rattle.rules.proofs.Places.{Renders, end, skip, test, upFrom, entryPlaces}
+use Rattle.rules.proofs.RowTests.{says-no-row, says-full, known, says-external, says-other-account, says-defaults, says-points}
+use Rattle.rules.proofs.Days.{in-links, links-in, says-valid, says-meets, Gap, says-gap}
+use Rattle.rules.proofs.EntryRelation.{says-neither}
 
 module _ (cs : List Csd) (ss : List Security) (acc : List Account) (ps : List Pair) (ls : List Link) (x : Link) where
   abbrev rows : Rows
@@ -31,6 +32,13 @@ module _ (cs : List Csd) (ss : List Security) (acc : List Account) (ps : List Pa
 
   abbrev Refused : ℕ → Type 0
   Refused = LinkRefused cs ss acc ls x
+
+  -- a link of its CSD for its security that shares a day with it
+  abbrev Met : (Link → Type 0) → Type 0
+  Met P = (l : Link) × Linked ls (x .security) (x .csd) l × ShareDay x l × P l
+
+  met : (p : Link → Bool) (P : Link → Type 0) → ((l : Link) → Says (P l) (p l)) → Says (Met P) (meets (ask rows) x p)
+  met = says-meets ls (x .security) (x .csd) x
 
   full : Says (Refused 5) (isFull linkLimit ls)
   full = says-as (says-full linkLimit ls) Refusals.linksFull from
@@ -95,11 +103,14 @@ module _ (cs : List Csd) (ss : List Security) (acc : List Account) (ps : List Pa
   entered : Says (Refused 9) (technicalEntered (ask rows) x)
   entered =
       says-as
-      (says-and (not (eqb (x .technical) noCsd)) _ (says-ne (x .technical) noCsd) (says-link-to cs ls (x .security) (x .csd) (x .technical)))
-      (λ h. Refusals.issuerEntered (h .1 .0) (h .1 .1) (h .0)) from
+      (says-and (not (eqb (x .technical) noCsd)) _ (says-ne (x .technical) noCsd) (met (pointsTo (x .technical)) (λ l. (l .kind ≡ 1) × (l .technical ≡ x .technical)) (says-points (x .technical))))
+      to from
     where
-      from : Refused 9 → (x .technical ≢ noCsd) × ((l : Link) × LinkTo cs ls (x .security) (x .technical) (x .csd) l)
-      from (Refusals.issuerEntered l t n) = (n, (l, t))
+      to : (x .technical ≢ noCsd) × Met (λ l. (l .kind ≡ 1) × (l .technical ≡ x .technical)) → Refused 9
+      to (n, (l, h, d, p)) = Refusals.issuerEntered l (record { entered = h .entered; security = h .security; csd = h .csd; kind = p .0; technical = p .1 }) d n
+
+      from : Refused 9 → (x .technical ≢ noCsd) × Met (λ l. (l .kind ≡ 1) × (l .technical ≡ x .technical))
+      from (Refusals.issuerEntered l t d n) = (n, (l, record { entered = t .entered; security = t .security; csd = t .csd }, d, (t .kind, t .technical)))
 
   -- ---- 10, where the account that is due is a row
   abbrev Other : Type 0
@@ -142,32 +153,66 @@ module _ (cs : List Csd) (ss : List Security) (acc : List Account) (ps : List Pa
       tests (Refusals.accountOfOther k t y i f) = all k t (inl (y, i, f))
       tests (Refusals.noIssuance k t y i f) = all k t (inr (y, i, f))
 
+  -- ---- 24
+  unordered : Says (Refused 24) (ltb (x .last) (x .first))
+  unordered = says-as (says-lt (x .last) (x .first)) Refusals.firstAfterLast from
+    where
+      from : Refused 24 → x .last < x .first
+      from (Refusals.firstAfterLast l) = l
+
   -- ---- 11, where kind and flag are each 0 or 1
   abbrev Issuer : Type 0
-  Issuer = (x .technical ≢ noCsd) ⊎ ((x .flag ≢ 1) ⊎ ((External cs (x .csd) × (x .account ≢ noAccount)) ⊎ ((l : Link) × Linked ls (x .security) (x .csd) l)))
+  Issuer = (x .technical ≢ noCsd) ⊎ ((x .flag ≢ 1) ⊎ ((External cs (x .csd) × (x .account ≢ noAccount)) ⊎ Met (λ l. Unit {0})))
 
   issuer-said : Says Issuer (issuerBroken (ask rows) x)
   issuer-said =
       says-or (not (eqb (x .technical) noCsd)) _ (says-ne (x .technical) noCsd)
       (says-or (not (eqb (x .flag) 1)) _ (says-ne (x .flag) 1)
-      (says-or (away && not (eqb (x .account) noAccount)) (hasLink ls (x .security) (x .csd))
+      (says-or (away && not (eqb (x .account) noAccount)) (meets (ask rows) x anyLink)
       (says-and away (not (eqb (x .account) noAccount)) (says-external cs (x .csd)) (says-ne (x .account) noAccount))
-      (says-any-link ls (x .security) (x .csd))))
+      (met anyLink (λ l. Unit {0}) (λ l. record { holds = λ e. tt; tests = λ u. refl }))))
+
+  -- an alternative's day without a default
+  abbrev Uncovered : Type 0
+  Uncovered = (day : ℕ) × ValidOn day x × ((l : Link) → DefaultOf cs ls (x .security) (x .csd) l → ValidOn day l → ⊥)
+
+  uncovered : Says Uncovered (not (defaultEachDay (ask rows) x))
+  uncovered = says-as (says-gap (linksFor ls (x .security) (x .csd)) (x .last) (dayCount x) (x .first) (omega arith)) to from
+    where
+      to : Gap (linksFor ls (x .security) (x .csd)) (x .first) (x .last) → Uncovered
+      to g = (
+        g .day,
+        record { begun = g .begun; notOver = g .notOver },
+        λ l d v.
+            g .without l (links-in ls (x .security) (x .csd) l (record { entered = d .entered; security = d .security; csd = d .csd }))
+            (says-defaults l .tests (d .kind, d .flag)) (says-valid (g .day) l .tests v),
+      )
+
+      from : Uncovered → Gap (linksFor ls (x .security) (x .csd)) (x .first) (x .last)
+      from (day, v, none) = record { day = day; begun = v .begun; notOver = v .notOver; without = without }
+        where
+          without : (l : Link) → List·Memᴰ l (linksFor ls (x .security) (x .csd)) → defaults l ≡ true → covers day l ≡ true → ⊥
+          without l m d w =
+              let h = in-links ls (x .security) (x .csd) l m in
+              let p = says-defaults l .holds d in
+              none l (record { entered = h .entered; security = h .security; csd = h .csd; kind = p .0; flag = p .1 }) (says-valid day l .holds w)
 
   abbrev Flag : Type 0
-  Flag = (((l : Link) × Linked ls (x .security) (x .csd) l × (l .kind ≡ 1)) × (x .flag ≡ 1)) ⊎ ((((l : Link) × Linked ls (x .security) (x .csd) l × (l .kind ≡ 1)) → ⊥) × (x .flag ≡ 0))
+  Flag = ((x .flag ≡ 1) × Met (λ l. (l .kind ≡ 1) × (l .flag ≡ 1))) ⊎ ((x .flag ≡ 0) × Uncovered)
 
   abbrev Investor : Type 0
-  Investor = (x .technical ≡ x .csd) ⊎ ((x .account ≢ noAccount) ⊎ (((l : Link) × IssuerOf cs ls (x .security) (x .csd) l)
+  Investor = (x .technical ≡ x .csd) ⊎ ((x .account ≢ noAccount) ⊎ (Met (λ l. l .kind ≡ 0)
       ⊎ (Flag ⊎ ((x .flag ≡ 0) × (External cs (x .csd) ⊎ External cs (x .technical))))))
 
   investor-said : Says Investor (investorBroken (ask rows) x)
   investor-said =
       says-or (eqb (x .technical) (x .csd)) _ (says-eq (x .technical) (x .csd))
       (says-or (not (eqb (x .account) noAccount)) _ (says-ne (x .account) noAccount)
-      (says-or (hasIssuer ls (x .security) (x .csd)) _ (says-issuer cs ls (x .security) (x .csd))
+      (says-or (meets (ask rows) x issues) _ (met issues (λ l. l .kind ≡ 0) (λ l. says-eq (l .kind) 0))
       (says-or (flagBroken (ask rows) x) (alternativeOutside (ask rows) x)
-      (says-cond (hasInvestor ls (x .security) (x .csd)) (eqb (x .flag) 1) (eqb (x .flag) 0) (says-investor ls (x .security) (x .csd)) (says-eq (x .flag) 1) (says-eq (x .flag) 0))
+      (says-or (eqb (x .flag) 1 && meets (ask rows) x defaults) (eqb (x .flag) 0 && not (defaultEachDay (ask rows) x))
+      (says-and (eqb (x .flag) 1) (meets (ask rows) x defaults) (says-eq (x .flag) 1) (met defaults (λ l. (l .kind ≡ 1) × (l .flag ≡ 1)) says-defaults))
+      (says-and (eqb (x .flag) 0) (not (defaultEachDay (ask rows) x)) (says-eq (x .flag) 0) uncovered))
       (says-and (eqb (x .flag) 0) _ (says-eq (x .flag) 0)
       (says-or away (external cs (x .technical)) (says-external cs (x .csd)) (says-external cs (x .technical)))))))
 
@@ -177,18 +222,15 @@ module _ (cs : List Csd) (ss : List Security) (acc : List Account) (ps : List Pa
       small : (x .kind ≤ 1) × (x .flag ≤ 1)
       small = let h = or-none (ltb 1 (x .kind)) (ltb 1 (x .flag)) e in (ltb-not 1 (x .kind) (h .0), ltb-not 1 (x .flag) (h .1))
 
-      flags : x .flag ≤ 1
-      flags = small .1
-
       as-issuer : x .kind ≡ 0 → Issuer → Refused 11
       as-issuer k (inl h) = Refusals.issuerNotDue k h
       as-issuer k (inr (inl h)) = Refusals.issuerFlag k h
       as-issuer k (inr (inr (inl h))) = Refusals.accountNotDue k (h .0) (h .1)
-      as-issuer k (inr (inr (inr h))) = Refusals.besideLink k (h .0) (h .1)
+      as-issuer k (inr (inr (inr h))) = Refusals.besideLink k (h .0) (h .1) (h .2)
 
       as-flag : x .kind ≡ 1 → Flag → Refused 11
-      as-flag k (inl h) = let f : x .flag ≡ 1 = h .1 in Refusals.laterFlag k (h .0 .0) (h .0 .1) (h .0 .2) (λ g. omega arith)
-      as-flag k (inr h) = let f : x .flag ≡ 0 = h .1 in Refusals.firstFlag k (λ l w z. h .0 (l, w, z)) (λ g. omega arith)
+      as-flag k (inl (f, (l, h, d, p))) = Refusals.twoDefaults k f l (record { entered = h .entered; security = h .security; csd = h .csd; kind = p .0; flag = p .1 }) d
+      as-flag k (inr (f, (day, v, none))) = Refusals.dayWithoutDefault k f day v none
 
       as-outside : x .kind ≡ 1 → x .flag ≡ 0 → External cs (x .csd) ⊎ External cs (x .technical) → Refused 11
       as-outside k f (inl h) = Refusals.fromExternal k f h
@@ -197,7 +239,7 @@ module _ (cs : List Csd) (ss : List Security) (acc : List Account) (ps : List Pa
       as-investor : x .kind ≡ 1 → Investor → Refused 11
       as-investor k (inl h) = Refusals.ownIssuer k h
       as-investor k (inr (inl h)) = Refusals.accountGiven k h
-      as-investor k (inr (inr (inl h))) = Refusals.besideIssuer k (h .0) (h .1)
+      as-investor k (inr (inr (inl (l, h, d, z)))) = Refusals.besideIssuer k l (record { entered = h .entered; security = h .security; csd = h .csd; kind = z }) d
       as-investor k (inr (inr (inr (inl h)))) = as-flag k h
       as-investor k (inr (inr (inr (inr h)))) = as-outside k (h .0) (h .1)
 
@@ -212,16 +254,24 @@ module _ (cs : List Csd) (ss : List Security) (acc : List Account) (ps : List Pa
       from (Refusals.issuerNotDue k h) = inl (k, inl h)
       from (Refusals.issuerFlag k h) = inl (k, inr (inl h))
       from (Refusals.accountNotDue k h f) = inl (k, inr (inr (inl (h, f))))
-      from (Refusals.besideLink k l h) = inl (k, inr (inr (inr (l, h))))
+      from (Refusals.besideLink k l h d) = inl (k, inr (inr (inr (l, h, d, tt))))
       from (Refusals.ownIssuer k h) = inr (other k, inl h)
       from (Refusals.accountGiven k h) = inr (other k, inr (inl h))
-      from (Refusals.besideIssuer k l h) = inr (other k, inr (inr (inl (l, h))))
-      from (Refusals.firstFlag k h f) = inr (other k, inr (inr (inr (inl (inr (λ w. h (w .0) (w .1) (w .2), omega (arith, f, flags)))))))
-      from (Refusals.laterFlag k l w z f) = inr (other k, inr (inr (inr (inl (inl ((l, w, z), omega (arith, f, flags)))))))
+      from (Refusals.besideIssuer k l h d) = inr (other k, inr (inr (inl (l, record { entered = h .entered; security = h .security; csd = h .csd }, d, h .kind))))
+      from (Refusals.twoDefaults k f l h d) =
+          inr (other k, inr (inr (inr (inl (inl (f, (l, record { entered = h .entered; security = h .security; csd = h .csd }, d, (h .kind, h .flag))))))))
+      from (Refusals.dayWithoutDefault k f day v none) = inr (other k, inr (inr (inr (inl (inr (f, (day, v, none)))))))
       from (Refusals.fromExternal k f h) = inr (other k, inr (inr (inr (inr (f, inl h)))))
       from (Refusals.toExternal k f h) = inr (other k, inr (inr (inr (inr (f, inr h)))))
 
-  pub link-renders : Renders (LinkRefused cs ss acc ls x) (linkConditions (ask rows) x) entryPlaces
+  -- the places behind those of a link
+  behind-link : Renders (LinkRefused cs ss acc ls x) [] (23 ∷ upFrom 12 11 [])
+  behind-link =
+      skip {m = 23} (λ p. elim p [ ]) (skip {m = 12} (λ p. elim p [ ]) (skip {m = 13} (λ p. elim p [ ]) (skip {m = 14} (λ p. elim p [ ]) (skip {m = 15} (λ p. elim p [ ])
+      (skip {m = 16} (λ p. elim p [ ]) (skip {m = 17} (λ p. elim p [ ]) (skip {m = 18} (λ p. elim p [ ]) (skip {m = 19} (λ p. elim p [ ])
+      (skip {m = 20} (λ p. elim p [ ]) (skip {m = 21} (λ p. elim p [ ]) (skip {m = 22} (λ p. elim p [ ]) end)))))))))))
+
+  pub link-renders : Renders (LinkRefused cs ss acc ls x) (linkConditions (isFull linkLimit ls) (ask rows) x) entryPlaces
   link-renders =
       test full (λ e5. test unknown (λ e6. test ranges (λ e7. skip {m = 8} (λ p. elim p [ ]) (test entered (λ e9. test (issuance e6) (λ e10.
-      test (broken e7) (λ e11. behind (λ n p. elim p [ ]))))))))
+      test unordered (λ e24. test (broken e7) (λ e11. behind-link))))))))

@@ -6,11 +6,11 @@ use lib.IntN.{ℤ, pos, _+ℤ_, +ℤ-idr}
 use lib.Dec.{eqb}
 use Rattle.rules.specs.Types.{Half, Step}
 use Rattle.rules.specs.Tests.{firstOf}
-use Rattle.rules.specs.Directory.{Rows, rowsOf, securityLimit}
+use Rattle.rules.specs.Directory.{Rows, rowsOf, onDay, securityLimit}
 use Rattle.rules.specs.Entries.{Row, Sized}
 use Rattle.rules.specs.Lookups.{ask}
 use Rattle.rules.specs.Chain.{stepsOf}
-use Rattle.rules.specs.Booking.{Way}
+use Rattle.rules.specs.Booking.{booked, Way}
 use Rattle.rules.specs.Calls.{Halves, Store, Call, enter, move, pay, settle, derive, coreConditions, deskConditions, desk, outcome, success, changed, Item, item, Run, next, runFrom, run, emptyStore, delivering, receiving, halvesChain}
 use Rattle.rules.specs.Demands.{signed, Log, begins, calls, Balanced}
 use Rattle.rules.proofs.Sums.{pick-zero}
@@ -21,7 +21,7 @@ use Rattle.rules.proofs.Refusals.{success-accepted}
 use Rattle.rules.proofs.Moves.{source, target, moveSteps, move-ends}
 use Rattle.rules.proofs.Accepted.{facts-of, core-free, MoveFacts, move-facts, PayFacts, pay-facts, SettleFacts, settle-facts}
 use Rattle.rules.proofs.Settlements.{settle-units, settle-cents}
-use Rattle.rules.proofs.Balance.{heldSum, InBalance, transfer-supply, transfer-keeps}
+use Rattle.rules.proofs.Balance.{heldSum, InBalance, balance-on, balance-off, transfer-supply, transfer-keeps}
 use Rattle.rules.proofs.BalanceEntries.{row-keeps, row-supply}
 use Rattle.rules.proofs.Funds.{allCash, Funded, payment-keeps, payment-sum, paid-keeps, paid-sum}
 use Rattle.rules.proofs.Kept.{Kept, balanced, empty-kept, refused-keeps, Keeps, accepted-keeps}
@@ -30,6 +30,10 @@ use Rattle.rules.proofs.Kept.{Kept, balanced, empty-kept, refused-keeps
 module _ (st : Store) (size : Sized (st .directory)) (B : InBalance (rowsOf (st .directory)) (st .positions)) (funds : Funded (st .cash)) where
   abbrev r : Rows
   r = rowsOf (st .directory)
+
+  -- those of a day
+  abbrev on : ℕ → Rows
+  on day = onDay day r
 
   abbrev Done : Call → Type 0
   Done c = firstOf (deskConditions c st) ≡ 0 → Keeps r c (success c st) st (changed c st)
@@ -43,7 +47,7 @@ module _ (st : Store) (size : Sized (st .directory)) (B : InBalance (rowsOf (st 
   enter-done : (x : Row) → Done (enter x)
   enter-done x free =
       let ok : firstOf (coreConditions (enter x) st) ≡ 0 = core-free (enter x) st free in
-      let F : Facts r = facts-of (enter x) st free in
+      let F : Facts (on 0) = facts-of (enter x) st free 0 in
       record {
         sized = added-sized x (st .directory) size;
         rows = added-rows x (st .directory) size ok;
@@ -54,17 +58,17 @@ module _ (st : Store) (size : Sized (st .directory)) (B : InBalance (rowsOf (st 
         changed = record { positions = refl; cash = refl };
       }
 
-  move-done : (w : Way) (a s q : ℕ) → Done (move w a s q)
-  move-done w a s q free =
-      let F : Facts r = facts-of (move w a s q) st free in
-      let M : MoveFacts st w a s q = move-facts st w a s q free in
-      let steps : List Step = moveSteps r w a (M .other) in
+  move-done : (w : Way) (a s q day : ℕ) → Done (move w a s q day)
+  move-done w a s q day free =
+      let F : Facts (on day) = facts-of (move w a s q day) st free day in
+      let M : MoveFacts st w a s q day = move-facts st w a s q day free in
+      let steps : List Step = moveSteps (on day) w a (M .other) in
       record {
         sized = size;
         rows = refl;
-        inBalance = rw (M .chain) (transfer-keeps r F (st .positions) B (source w a (M .other)) steps (target w a (M .other)) s q (M .transfer));
-        supply = λ t ht. rw (M .chain) (transfer-supply r F (st .positions) B (source w a (M .other)) steps (target w a (M .other)) s q (M .transfer)
-            (signed w q) (move-ends r a (M .other) (M .holder) (M .against) w q) t ht);
+        inBalance = rw (M .chain) (balance-off day r (booked steps s q (st .positions)) (transfer-keeps (on day) F (st .positions) (balance-on day r (st .positions) B) (source w a (M .other)) steps (target w a (M .other)) s q (M .transfer)));
+        supply = λ t ht. rw (M .chain) (transfer-supply (on day) F (st .positions) (balance-on day r (st .positions) B) (source w a (M .other)) steps (target w a (M .other)) s q (M .transfer)
+            (signed w q) (move-ends (on day) a (M .other) (M .holder) (M .against) w q) t ht);
         funded = funds;
         money = same-money;
         changed = tt;
@@ -83,19 +87,19 @@ module _ (st : Store) (size : Sized (st .directory)) (B : InBalance (rowsOf (st 
         changed = tt;
       }
 
-  settle-done : (hs : Halves) (lent : List Step) → Done (settle hs lent)
-  settle-done hs lent free =
-      let F : Facts r = facts-of (settle hs lent) st free in
+  settle-done : (hs : Halves) (day : ℕ) (lent : List Step) → Done (settle hs day lent)
+  settle-done hs day lent free =
+      let F : Facts (on day) = facts-of (settle hs day lent) st free day in
       let h : Half = delivering hs in
       let g : Half = receiving hs in
-      let steps : List Step = stepsOf (halvesChain (ask r) hs) in
-      let S : SettleFacts st hs steps = settle-facts st hs lent free in
+      let steps : List Step = stepsOf (halvesChain (ask (on day)) hs) in
+      let S : SettleFacts st hs day steps = settle-facts st hs day lent free in
       record {
         sized = size;
         rows = refl;
-        inBalance = transfer-keeps r F (st .positions) B (h .account) steps (g .account) (h .security) (h .quantity) (S .transfer);
+        inBalance = balance-off day r (booked steps (h .security) (h .quantity) (st .positions)) (transfer-keeps (on day) F (st .positions) (balance-on day r (st .positions) B) (h .account) steps (g .account) (h .security) (h .quantity) (S .transfer));
         supply = λ t ht.
-            transfer-supply r F (st .positions) B (h .account) steps (g .account) (h .security) (h .quantity) (S .transfer)
+            transfer-supply (on day) F (st .positions) (balance-on day r (st .positions) B) (h .account) steps (g .account) (h .security) (h .quantity) (S .transfer)
             (pos 0) (rw (S .agree .deliverer, S .agree .receiver) (sym (+ℤ-idr (pos (h .quantity))))) t ht
             ∙ ap (λ (z : ℤ). heldSum r (st .positions) t +ℤ z) (pick-zero (eqb (h .security) t));
         funded = paid-keeps (st .cash) (g .account) (h .account) (h .amount) funds (S .payer) (S .payee) (λ e. S .agree .two (sym e)) (S .allowed .cash);
@@ -105,22 +109,22 @@ module _ (st : Store) (size : Sized (st .directory)) (B : InBalance (rowsOf (st 
           receiving = g;
           sides = S .sides;
           steps = steps;
-          chain = chain-given-is r F (h .security) (h .account) (g .account) steps (S .chain);
-          units = settle-units st hs steps S;
-          cents = settle-cents st hs steps S;
+          chain = chain-given-is (on day) F (h .security) (h .account) (g .account) steps (S .chain);
+          units = settle-units st hs day steps S;
+          cents = settle-cents st hs day steps S;
         };
       }
 
-  derive-done : (hs : Halves) (lent : List Step) → Done (derive hs lent)
-  derive-done hs lent free =
+  derive-done : (hs : Halves) (day : ℕ) (lent : List Step) → Done (derive hs day lent)
+  derive-done hs day lent free =
       record { sized = size; rows = refl; inBalance = B; supply = same-supply; funded = funds; money = same-money; changed = record { positions = refl; cash = refl } }
 
   call-done : (c : Call) → Done c
   call-done (enter x) = enter-done x
-  call-done (move w a s q) = move-done w a s q
+  call-done (move w a s q day) = move-done w a s q day
   call-done (pay w a m) = pay-done w a m
-  call-done (settle hs lent) = settle-done hs lent
-  call-done (derive hs lent) = derive-done hs lent
+  call-done (settle hs day lent) = settle-done hs day lent
+  call-done (derive hs day lent) = derive-done hs day lent
 
 -- ---- every call
 call-keeps : (c : Call) (items : List Item) (st : Store) → Kept items st → Kept (item c (desk c st .answer) st (desk c st .store) ∷ items) (desk c st .store)

@@ -8,7 +8,7 @@ use native.Mathlib.Omega.{arith}
 use lib.ListN.{length, getElem?, length-append}
 use Rattle.rules.specs.Types.{Csd, Account, Pair, Link}
 use Rattle.rules.specs.Tests.{isRow}
-use Rattle.rules.specs.Directory.{Rows, external, isKind, inBooks}
+use Rattle.rules.specs.Directory.{Rows, onDay, external, isKind, inBooks}
 use Rattle.rules.specs.Entries.{Row, csdRow, securityRow, accountRow, pairRow, linkRow}
 use Rattle.rules.specs.Demands.{withRow}
 use Rattle.rules.specs.Booking.{floored}
@@ -72,6 +72,10 @@ grows (securityRow x) r = record { csds = same (r .csds); securities = longer (r
 grows (accountRow x) r = record { csds = same (r .csds); securities = same (r .securities); accounts = longer (r .accounts) x }
 grows (pairRow x) r = record { csds = same (r .csds); securities = same (r .securities); accounts = same (r .accounts) }
 grows (linkRow x) r = record { csds = same (r .csds); securities = same (r .securities); accounts = same (r .accounts) }
+
+-- the rows of a day: tables other than that of the links are the same
+pub of-day : (day : ℕ) (r : Rows) → Grows r (onDay day r)
+of-day day r = record { csds = same (r .csds); securities = same (r .securities); accounts = same (r .accounts) }
 
 module _ (r r′ : Rows) (G : Grows r r′) where
   pub account-stays : (b : List Account) (x : Account) → NewAccount (r .csds) b x → NewAccount (r′ .csds) b x

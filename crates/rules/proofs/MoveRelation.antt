@@ -166,9 +166,9 @@ module _ (r : Rows) (F : Facts r) (p : List ℤ) (w : Way) (a s q : ℕ) where
   unfolding moveChain
   move-renders =
       skip {m = 5} (λ x. elim x [ ]) (test unknown (λ e6. test range (λ e7. skip {m = 8} (λ x. elim x [ ]) (skip {m = 9} (λ x. elim x [ ]) (test (holder e6) (λ e10.
-      skip {m = 11} (λ x. elim x [ ]) (skip {m = 23} (λ x. elim x [ ]) (skip {m = 12} (λ x. elim x [ ]) (skip {m = 13} (λ x. elim x [ ]) (skip {m = 14} (λ x. elim x [ ])
+      skip {m = 24} (λ x. elim x [ ]) (skip {m = 11} (λ x. elim x [ ]) (skip {m = 23} (λ x. elim x [ ]) (skip {m = 12} (λ x. elim x [ ]) (skip {m = 13} (λ x. elim x [ ]) (skip {m = 14} (λ x. elim x [ ])
       (skip {m = 15} (λ x. elim x [ ]) (skip {m = 16} (λ x. elim x [ ]) (skip {m = 17} (λ x. elim x [ ]) (skip {m = 18} (λ x. elim x [ ])
-      (by-contra (contra (ask r) s home a) refl)))))))))))))))
+      (by-contra (contra (ask r) s home a) refl))))))))))))))))
 
 -- ---- 08, 09
 module _ (r : Rows) (c : List ℤ) (w : Way) (a m : ℕ) where
@@ -225,6 +225,6 @@ module _ (r : Rows) (c : List ℤ) (w : Way) (a m : ℕ) where
   pub pay-renders : Renders PayRefusal (payConditions (ask r) c w a m) entryPlaces
   pay-renders =
       skip {m = 5} (λ x. elim x [ ]) (test pay-unknown (λ e6. test pay-range (λ e7. skip {m = 8} (λ x. elim x [ ]) (skip {m = 9} (λ x. elim x [ ]) (test (pay-holder e6) (λ e10.
-      skip {m = 11} (λ x. elim x [ ]) (skip {m = 23} (λ x. elim x [ ]) (skip {m = 12} (λ x. elim x [ ]) (skip {m = 13} (λ x. elim x [ ]) (skip {m = 14} (λ x. elim x [ ])
+      skip {m = 24} (λ x. elim x [ ]) (skip {m = 11} (λ x. elim x [ ]) (skip {m = 23} (λ x. elim x [ ]) (skip {m = 12} (λ x. elim x [ ]) (skip {m = 13} (λ x. elim x [ ]) (skip {m = 14} (λ x. elim x [ ])
       (skip {m = 15} (λ x. elim x [ ]) (skip {m = 16} (λ x. elim x [ ]) (skip {m = 17} (λ x. elim x [ ]) (skip {m = 18} (λ x. elim x [ ])
-      (skip {m = 19} (λ x. elim x [ ]) (skip {m = 20} (λ x. elim x [ ]) (test (pay-short (amount e7) w refl) (λ e21. test pay-beyond (λ e22. end)))))))))))))))))))
+      (skip {m = 19} (λ x. elim x [ ]) (skip {m = 20} (λ x. elim x [ ]) (test (pay-short (amount e7) w refl) (λ e21. test pay-beyond (λ e22. end))))))))))))))))))))

@@ -77,7 +77,7 @@ upFrom lo (suc k) ns = lo ∷ upFrom (suc lo) k ns
 
 -- the places behind 3 and 4
 abbrev pub entryPlaces : List ℕ
-entryPlaces = upFrom 5 7 (23 ∷ upFrom 12 11 [])
+entryPlaces = upFrom 5 6 (24 ∷ 11 ∷ 23 ∷ upFrom 12 11 [])
 
 -- every number of the list is at least lo, and at most hi
 abbrev spans : ℕ → ℕ → List ℕ → Bool
@@ -90,17 +90,17 @@ spanned lo hi (m ∷ ns) e n (List·Memᴰ·head h) =
     (rw h (leb-is lo m (both .0)), rw h (leb-is m hi (both .1)))
 spanned lo hi (m ∷ ns) e n (List·Memᴰ·tail i) = spanned lo hi ns (and-both (leb lo m && leb m hi) (spans lo hi ns) e .1) n i
 
-pub places-range : (n : ℕ) → List·Memᴰ n places → (3 ≤ n) × (n ≤ 23)
-places-range = spanned 3 23 places refl
+pub places-range : (n : ℕ) → List·Memᴰ n places → (3 ≤ n) × (n ≤ 24)
+places-range = spanned 3 24 places refl
 
-pub entry-range : (n : ℕ) → List·Memᴰ n entryPlaces → (5 ≤ n) × (n ≤ 23)
-entry-range = spanned 5 23 entryPlaces refl
+pub entry-range : (n : ℕ) → List·Memᴰ n entryPlaces → (5 ≤ n) × (n ≤ 24)
+entry-range = spanned 5 24 entryPlaces refl
 
 pub listed : (n : ℕ) (ns : List ℕ) → any (eqb n) ns ≡ true → List·Memᴰ n ns
 listed n ns e = let x = says-any (eqb n) ns (λ m. says-eq n m) .holds e in rw (x .2) (x .1)
 
-pub in-places : (n : ℕ) → 3 ≤ n → n ≤ 23 → List·Memᴰ n places
-in-places n l h = go (says-below 24 among (λ k. says-or (ltb k 3) (any (eqb k) places) (says-lt k 3) (record { holds = λ e. e; tests = λ e. e })) .holds refl n (omega arith))
+pub in-places : (n : ℕ) → 3 ≤ n → n ≤ 24 → List·Memᴰ n places
+in-places n l h = go (says-below 25 among (λ k. says-or (ltb k 3) (any (eqb k) places) (says-lt k 3) (record { holds = λ e. e; tests = λ e. e })) .holds refl n (omega arith))
   where
     among : ℕ → Bool
     among k = ltb k 3 || any (eqb k) places

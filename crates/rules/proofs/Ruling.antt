@@ -10,7 +10,7 @@ use lib.Dec.{eqb}
 use lib.ListN.{length}
 use Rattle.rules.specs.Types.{Account, Directory, Units, Cents, SumUnits, SumCents}
 use Rattle.rules.specs.Tests.{isRow, Condition, firstOf}
-use Rattle.rules.specs.Directory.{Rows, rowsOf, accountLimit, isKind}
+use Rattle.rules.specs.Directory.{Rows, rowsOf, rowsOn, accountLimit, isKind}
 use Rattle.rules.specs.Entries.{Row, csdRow, securityRow, accountRow, pairRow, linkRow, sound}
 use Rattle.rules.specs.Booking.{positionCount, cashCount, heldIn, cashOn, beyond, participants, everyAccount, sumBeyond, participantSum, cashSum, securityTotalBy, cashTotalBy}
 use Rattle.rules.specs.Calls.{Halves, Store, Call, enter, move, pay, settle, derive, misfit, coreConditions, deskConditions, outcome, desk, success, numberOf, unitsNumber, centsNumber, deskSecurityTotal, deskCashTotal}
@@ -48,12 +48,12 @@ decides {P} {cs} number e R =
 -- ---- the calls
 
 -- 5 to 22 over a sound directory
-core-renders : (c : Call) (st : Store) → Facts (rowsOf (st .directory)) → Renders (CoreRefused c st) (coreConditions c st) entryPlaces
+core-renders : (c : Call) (st : Store) → ((day : ℕ) → Facts (rowsOn day (st .directory))) → Renders (CoreRefused c st) (coreConditions c st) entryPlaces
 core-renders (enter x) st F = row-renders (rowsOf (st .directory)) x
-core-renders (move w a s q) st F = move-renders (rowsOf (st .directory)) F (st .positions) w a s q
+core-renders (move w a s q day) st F = move-renders (rowsOn day (st .directory)) (F day) (st .positions) w a s q
 core-renders (pay w a m) st F = pay-renders (rowsOf (st .directory)) (st .cash) w a m
-core-renders (settle hs lent) st F = settle-renders (rowsOf (st .directory)) F hs (st .positions) (st .cash)
-core-renders (derive hs lent) st F = derive-renders (rowsOf (st .directory)) F hs
+core-renders (settle hs day lent) st F = settle-renders (rowsOn day (st .directory)) (F day) hs (st .positions) (st .cash)
+core-renders (derive hs day lent) st F = derive-renders (rowsOn day (st .directory)) (F day) hs
 
 -- 3 and 4 are no numbers of a row or of halves
 row-early : (r : Rows) (x : Row) → (RowRefused r x 3 → ⊥) × (RowRefused r x 4 → ⊥)
@@ -86,18 +86,18 @@ module _ (r : Rows) (hs : Halves) where
 
 core-early : (c : Call) (st : Store) → (CoreRefused c st 3 → ⊥) × (CoreRefused c st 4 → ⊥)
 core-early (enter x) st = row-early (rowsOf (st .directory)) x
-core-early (move w a s q) st = ((λ p. elim p [ ]), (λ p. elim p [ ]))
+core-early (move w a s q day) st = ((λ p. elim p [ ]), (λ p. elim p [ ]))
 core-early (pay w a m) st = ((λ p. elim p [ ]), (λ p. elim p [ ]))
-core-early (settle hs lent) st =
-    (settle-three (rowsOf (st .directory)) hs (st .positions) (st .cash), settle-four (rowsOf (st .directory)) hs (st .positions) (st .cash))
-core-early (derive hs lent) st = (derive-three (rowsOf (st .directory)) hs, derive-four (rowsOf (st .directory)) hs)
+core-early (settle hs day lent) st =
+    (settle-three (rowsOn day (st .directory)) hs (st .positions) (st .cash), settle-four (rowsOn day (st .directory)) hs (st .positions) (st .cash))
+core-early (derive hs day lent) st = (derive-three (rowsOn day (st .directory)) hs, derive-four (rowsOn day (st .directory)) hs)
 
 success-number : (c : Call) (st : Store) → numberOf (success c st) ≡ 0
 success-number (enter x) st = refl
-success-number (move w a s q) st = refl
+success-number (move w a s q day) st = refl
 success-number (pay w a m) st = refl
-success-number (settle hs lent) st = refl
-success-number (derive hs lent) st = refl
+success-number (settle hs day lent) st = refl
+success-number (derive hs day lent) st = refl
 
 module _ (c : Call) (st : Store) where
   lent : Says (Applies c st 3) (misfit c st)
@@ -195,9 +195,9 @@ module _ (d : Directory) (p : List ℤ) (s : ℕ) where
   units-renders =
       test units-lent (λ e3. test units-unsound (λ e4. skip {m = 5} (λ x. elim x [ ]) (test units-unknown (λ e6.
       skip {m = 7} (λ x. elim x [ ]) (skip {m = 8} (λ x. elim x [ ]) (skip {m = 9} (λ x. elim x [ ]) (skip {m = 10} (λ x. elim x [ ])
-      (skip {m = 11} (λ x. elim x [ ]) (skip {m = 23} (λ x. elim x [ ]) (skip {m = 12} (λ x. elim x [ ]) (skip {m = 13} (λ x. elim x [ ]) (skip {m = 14} (λ x. elim x [ ])
+      (skip {m = 24} (λ x. elim x [ ]) (skip {m = 11} (λ x. elim x [ ]) (skip {m = 23} (λ x. elim x [ ]) (skip {m = 12} (λ x. elim x [ ]) (skip {m = 13} (λ x. elim x [ ]) (skip {m = 14} (λ x. elim x [ ])
       (skip {m = 15} (λ x. elim x [ ]) (skip {m = 16} (λ x. elim x [ ]) (skip {m = 17} (λ x. elim x [ ]) (skip {m = 18} (λ x. elim x [ ])
-      (skip {m = 19} (λ x. elim x [ ]) (skip {m = 20} (λ x. elim x [ ]) (skip {m = 21} (λ x. elim x [ ]) (test units-beyond (λ e22. end)))))))))))))))))))))
+      (skip {m = 19} (λ x. elim x [ ]) (skip {m = 20} (λ x. elim x [ ]) (skip {m = 21} (λ x. elim x [ ]) (test units-beyond (λ e22. end))))))))))))))))))))))
 
 module _ (c : List ℤ) where
   cash-lent : Says (CashTotalRefused c 3) (not (eqb (length c) cashCount))
@@ -218,9 +218,9 @@ module _ (c : List ℤ) where
   cash-renders =
       test cash-lent (λ e3. skip {m = 4} (λ x. elim x [ ]) (skip {m = 5} (λ x. elim x [ ]) (skip {m = 6} (λ x. elim x [ ])
       (skip {m = 7} (λ x. elim x [ ]) (skip {m = 8} (λ x. elim x [ ]) (skip {m = 9} (λ x. elim x [ ]) (skip {m = 10} (λ x. elim x [ ])
-      (skip {m = 11} (λ x. elim x [ ]) (skip {m = 23} (λ x. elim x [ ]) (skip {m = 12} (λ x. elim x [ ]) (skip {m = 13} (λ x. elim x [ ]) (skip {m = 14} (λ x. elim x [ ])
+      (skip {m = 24} (λ x. elim x [ ]) (skip {m = 11} (λ x. elim x [ ]) (skip {m = 23} (λ x. elim x [ ]) (skip {m = 12} (λ x. elim x [ ]) (skip {m = 13} (λ x. elim x [ ]) (skip {m = 14} (λ x. elim x [ ])
       (skip {m = 15} (λ x. elim x [ ]) (skip {m = 16} (λ x. elim x [ ]) (skip {m = 17} (λ x. elim x [ ]) (skip {m = 18} (λ x. elim x [ ])
-      (skip {m = 19} (λ x. elim x [ ]) (skip {m = 20} (λ x. elim x [ ]) (skip {m = 21} (λ x. elim x [ ]) (test cash-beyond (λ e22. end)))))))))))))))))))))
+      (skip {m = 19} (λ x. elim x [ ]) (skip {m = 20} (λ x. elim x [ ]) (skip {m = 21} (λ x. elim x [ ]) (test cash-beyond (λ e22. end))))))))))))))))))))))
 
 units-number : (n : ℕ) (z : Units) → unitsNumber (securityTotalBy n z) ≡ n
 units-number zero z = refl

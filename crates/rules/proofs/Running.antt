@@ -45,23 +45,23 @@ changed-ready (enter x) st h e =
       positions = h .positions;
       cash = h .cash;
     }
-changed-ready (move w a s q) st h e =
+changed-ready (move w a s q day) st h e =
     record {
       sized = h .sized;
       soundBooks = h .soundBooks;
-      positions = booked-length (chainFor (move w a s q) st) s q (st .positions) ∙ h .positions;
+      positions = booked-length (chainFor (move w a s q day) st) s q (st .positions) ∙ h .positions;
       cash = h .cash;
     }
 changed-ready (pay w a m) st h e =
     record { sized = h .sized; soundBooks = h .soundBooks; positions = h .positions; cash = cents-length (st .cash) a (payment w m) ∙ h .cash }
-changed-ready (settle hs lent) st h e =
+changed-ready (settle hs day lent) st h e =
     record {
       sized = h .sized;
       soundBooks = h .soundBooks;
-      positions = booked-length (chainFor (settle hs lent) st) (delivering hs .security) (delivering hs .quantity) (st .positions) ∙ h .positions;
+      positions = booked-length (chainFor (settle hs day lent) st) (delivering hs .security) (delivering hs .quantity) (st .positions) ∙ h .positions;
       cash = paid-length (st .cash) (receiving hs .account) (delivering hs .account) (delivering hs .amount) ∙ h .cash;
     }
-changed-ready (derive hs lent) st h e = h
+changed-ready (derive hs day lent) st h e = h
 
 pub core-ready : (c : Call) (st : Store) → Ready st → Ready (core c st .store)
 unfolding core

@@ -31,9 +31,9 @@ use Rattle.rules.proofs.ChainSize.{chain-number}
 
 -- ---- a derivation, and what a call asks behind it
 
--- a number of a derivation: it stands before 19
+-- a number of a derivation: its place is before 19
 abbrev Unbooked : ℕ → Type 0
-Unbooked n = (n ≤ 18) ⊎ (n ≡ 23)
+Unbooked n = (n ≤ 18) ⊎ (23 ≤ n)
 
 module _ (r : Rows) (F : Facts r) (hs : Halves) where
   abbrev h : Half
@@ -95,8 +95,8 @@ module _ (r : Rows) (F : Facts r) (hs : Halves) where
     tested : (n : ℕ) → Early n → {b : Bool} → Says (HalvesRefused r hs n) b → Says (Q n) b
     tested n l S = says-as S (λ x. to n (Refusals.halves x)) (λ q. as-halves n l (from n (unbooked n l) q))
 
-    passed : (n : ℕ) → n ≤ 13 → (HalvesRefused r hs n → ⊥) → Q n → ⊥
-    passed n l never q = never (as-halves n (inl l) (from n (inl (omega arith)) q))
+    passed : (n : ℕ) → Early n → (HalvesRefused r hs n → ⊥) → Q n → ⊥
+    passed n l never q = never (as-halves n l (from n (unbooked n l) q))
 
     -- there is a chain: 14 to 18 do not apply
     none : (steps : List Step) → called ≡ chained steps → (n : ℕ) → 14 ≤ n → n ≤ 18 → Q n → ⊥
@@ -141,13 +141,14 @@ module _ (r : Rows) (F : Facts r) (hs : Halves) where
     pub renders-then : (cs : List Condition) → (Delivers hs h g → (steps : List Step) → called ≡ chained steps → Renders Q cs (upFrom 19 4 []))
         → Renders Q (halvesConditions (ask r) hs ++ (chainConditions called ++ cs)) entryPlaces
     renders-then cs rest =
-        skip (passed 5 (omega arith) (halves-else r hs (λ p. elim p [ ]) (λ p. elim p [ ]) (λ p. elim p [ ]) (λ p. elim p [ ])))
+        skip (passed 5 (inl (omega arith)) (halves-else r hs (λ p. elim p [ ]) (λ p. elim p [ ]) (λ p. elim p [ ]) (λ p. elim p [ ])))
         (test (tested 6 (inl (omega arith)) (halves-unknown r hs)) (λ e6. test (tested 7 (inl (omega arith)) (halves-range r hs)) (λ e7.
-        skip (passed 8 (omega arith) (halves-else r hs (λ p. elim p [ ]) (λ p. elim p [ ]) (λ p. elim p [ ]) (λ p. elim p [ ])))
-        (skip (passed 9 (omega arith) (halves-else r hs (λ p. elim p [ ]) (λ p. elim p [ ]) (λ p. elim p [ ]) (λ p. elim p [ ])))
+        skip (passed 8 (inl (omega arith)) (halves-else r hs (λ p. elim p [ ]) (λ p. elim p [ ]) (λ p. elim p [ ]) (λ p. elim p [ ])))
+        (skip (passed 9 (inl (omega arith)) (halves-else r hs (λ p. elim p [ ]) (λ p. elim p [ ]) (λ p. elim p [ ]) (λ p. elim p [ ])))
         (test (tested 10 (inl (omega arith)) (halves-kind r hs e6)) (λ e10.
-        skip (passed 11 (omega arith) (halves-else r hs (λ p. elim p [ ]) (λ p. elim p [ ]) (λ p. elim p [ ]) (λ p. elim p [ ])))
-        (test (tested 23 (inr refl) (halves-side r hs)) (λ e23. let d = two-sides r hs e7 e23 in behind-sides e6 d cs (rest d)))))))))
+        skip (passed 24 (inr (omega arith)) (halves-else r hs (λ p. elim p [ ]) (λ p. elim p [ ]) (λ p. elim p [ ]) (λ p. elim p [ ])))
+        (skip (passed 11 (inl (omega arith)) (halves-else r hs (λ p. elim p [ ]) (λ p. elim p [ ]) (λ p. elim p [ ]) (λ p. elim p [ ])))
+        (test (tested 23 (inr (omega arith)) (halves-side r hs)) (λ e23. let d = two-sides r hs e7 e23 in behind-sides e6 d cs (rest d))))))))))
 
   -- ---- 0B, 0D
   behind-derive : (n : ℕ) → 19 ≤ n → n ≤ 22 → DeriveRefused r hs n → ⊥

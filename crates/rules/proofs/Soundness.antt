@@ -1,7 +1,7 @@
 -- What a sound directory gives: each row was accepted after those before it, and of two rows that clash the later would not have been.
 use mathlib.Core.Path.{_≡_, refl, sym}
 use mathlib.Core.Logic.{_≢_, _⊎_, inl, inr}
-use mathlib.Core.Bool.{true, false, not, true≢false}
+use mathlib.Core.Bool.{Bool, true, false, not, _&&_, true≢false}
 use mathlib.Core.List.{List, [], _∷_, List·Memᴰ, List·Memᴰ·head, List·Memᴰ·tail}
 use Prim.Native.Nat.{ℕ, zero, suc, _≤_, _<_, min}
 use native.Mathlib.Omega.{arith}
@@ -10,16 +10,20 @@ use lib.ListN.{length, take, length-take}
 use Rattle.rules.specs.Types.{Account, Pair, Link, Directory}
 use Rattle.rules.specs.Tests.{isRow}
 use Rattle.rules.specs.Entries as Entry
-use Rattle.rules.specs.Directory.{Rows, rowsOf, csdLimit, securityLimit, accountLimit, pairLimit, linkLimit, noCsd, noAccount, external, inBooks, uses, serves, sameDuo, usesApart, isServed, isApart, isLink, isIssuer, isInvestor, isLinkTo, hasLink, hasIssuer, hasInvestor, hasLinkTo}
-use Rattle.rules.specs.Refusals.{SharesBoth}
+use Rattle.rules.specs.Directory.{Rows, rowsOf, csdLimit, securityLimit, accountLimit, pairLimit, linkLimit, noAccount, linksOf, onDay, rowsOn, external, inBooks, uses, serves, sameDuo, usesApart, isServed, isApart, issues, defaults, linksFor}
+use Rattle.rules.specs.Refusals.{SharesBoth, ShareDay}
 use Rattle.rules.specs.Entries.{accountsSound, pairsSound, linksSound, withinLimits, soundRows, sound}
-use Rattle.rules.proofs.Basics.{clash, unnot-false, and-both, and-second, or-cases, eqb-is, eqb-true, eqb-false, ltb-is, leb-is, any-true, any-none}
+use Rattle.rules.proofs.Basics.{clash, unnot-false, and-both, and-true, and-second, or-cases, eqb-is, eqb-true, eqb-false, ltb-is, leb-is, any-true, any-none}
+use Rattle.rules.proofs.RowTests.{says-defaults}
+use Rattle.rules.proofs.Days.{links-in, of-day, says-shares}
 use Rattle.rules.proofs.Facts.{PairFacts, LinkFacts, Facts}
 use Rattle.rules.proofs.InOrder.{Judged, judged, of-two, one-row}
 use Rattle.rules.proofs.Duos.{serves-is, duo-says, duo-one, duo-turned}
 use Rattle.rules.proofs.NewAccounts.{NewAccount, accepted-account}
 use Rattle.rules.proofs.NewPairs.{NewPair, accepted-pair}
 use Rattle.rules.proofs.NewLinks.{NewLink, accepted-link}
+use Rattle.rules.proofs.Longer
+use Rattle.rules.proofs.Longer.{pair-stays, link-stays}
 use Rattle.rules.proofs.SoundParts.{WithinLimits, limits, SoundTables, tables}
 
 few : {A : Type 0} (count most : ℕ) (rows : List A) → leb count most ≡ true → length (take count rows) ≤ most
@@ -66,32 +70,25 @@ module _ (r : Rows) (b : List Pair) (p q : Pair) (m : List·Memᴰ q b) (n : New
           (and-second (uses a q) (not (sameDuo p q)) (any-none (usesApart a p) b (rw (f, eqb-false a noAccount ne) at e) q m) v)
 
 -- ---- links
-module _ (r : Rows) (b : List Link) (l k : Link) (m : List·Memᴰ k b) (n : NewLink r b l) (s : k .security ≡ l .security) (c : k .csd ≡ l .csd) where
-  linked : isLink (l .security) (l .csd) k ≡ true
-  linked = rw (eqb-true (k .security) (l .security) s, eqb-true (k .csd) (l .csd) c)
+module _ (r : Rows) (b : List Link) (l k : Link) (m : List·Memᴰ k b) (n : NewLink r b l) (s : k .security ≡ l .security) (c : k .csd ≡ l .csd) (shared : ShareDay l k) where
+  met : (p : Link → Bool) → p k ≡ true → Entry.meets (Entry.besideLinks (r .csds) (r .securities) (r .accounts) b) l p ≡ true
+  met p e =
+      any-true (λ x. Entry.sharesDay l x && p x) (linksFor b (l .security) (l .csd)) k
+      (links-in b (l .security) (l .csd) k (record { entered = m; security = s; csd = c }))
+      (and-true (Entry.sharesDay l k) (p k) (says-shares l k .tests shared) e)
 
   -- nothing is added beside an issuer link, and no issuer link beside another link
   beside-issuer : (l .kind ≡ 0) ⊎ (k .kind ≡ 0) → ⊥
-  unfolding hasLink hasIssuer
   beside-issuer e = go (n .facts .kind) e
     where
       go : (l .kind ≡ 0) ⊎ (l .kind ≡ 1) → (l .kind ≡ 0) ⊎ (k .kind ≡ 0) → ⊥
-      go (inl z) i = clash (hasLink b (l .security) (l .csd)) (any-true (isLink (l .security) (l .csd)) b k m linked) (n .noLink z)
+      go (inl z) i = clash (Entry.meets (Entry.besideLinks (r .csds) (r .securities) (r .accounts) b) l Entry.anyLink) (met Entry.anyLink refl) (n .noLink z)
       go (inr z) (inl i) = omega arith
-      go (inr z) (inr i) = clash (hasIssuer b (l .security) (l .csd)) (any-true (isIssuer (l .security) (l .csd)) b k m (rw (linked, eqb-true (k .kind) 0 i))) (n .noIssuer z)
+      go (inr z) (inr i) = clash (Entry.meets (Entry.besideLinks (r .csds) (r .securities) (r .accounts) b) l issues) (met issues (eqb-true (k .kind) 0 i)) (n .noIssuer z)
 
-  twice-default : l .kind ≡ 1 → k .kind ≡ 1 → l .flag ≡ 1 → ⊥
-  unfolding hasInvestor
-  twice-default e f g =
-      let later : hasInvestor b (l .security) (l .csd) ≡ true = any-true (isInvestor (l .security) (l .csd)) b k m (rw (linked, eqb-true (k .kind) 1 f)) in
-      true≢false (rw (later, eqb-true (l .flag) 1 g) at (n .flagFits e))
-
-  twice-technical : l .kind ≡ 1 → k .kind ≡ 1 → k .technical ≡ l .technical → l .technical ≢ noCsd → ⊥
-  unfolding hasLinkTo
-  twice-technical e f t ne =
-      let there : hasLinkTo b (l .security) (l .csd) (l .technical) ≡ true =
-      any-true (isLinkTo (l .security) (l .csd) (l .technical)) b k m (rw (linked, eqb-true (k .kind) 1 f, eqb-true (k .technical) (l .technical) t)) in
-      true≢false (rw (eqb-false (l .technical) noCsd ne, there) at (n .unentered))
+  twice-default : l .kind ≡ 1 → k .kind ≡ 1 → l .flag ≡ 1 → k .flag ≡ 1 → ⊥
+  twice-default e f g h =
+      true≢false (rw (met defaults (says-defaults k .tests (f, h)), eqb-true (l .flag) 1 g) at (n .flagFits e))
 
 -- ---- the directory
 module _ (r : Rows) (S : SoundTables r) where
@@ -127,36 +124,39 @@ module _ (r : Rows) (S : SoundTables r) where
       let j = judged (Entry.linkRefusal (r .csds) (r .securities) (r .accounts)) [] (r .links) (S .links) l m in
       accepted-link r (j .after) l (j .accepted) .facts
 
-  -- a technical issuer is a row, and hex FF is none
-  technical-named : length (r .csds) ≤ csdLimit → (l : Link) → List·Memᴰ l (r .links) → l .kind ≡ 1 → l .technical ≢ noCsd
-  unfolding isRow
-  technical-named small l m e f =
-      let below : l .technical < length (r .csds) = ltb-is (l .technical) (length (r .csds)) (link-facts l m .investor e .technicalRow) in
-      omega arith
-
-pub sound-gives : (d : Directory) → sound d ≡ true → Facts (rowsOf d)
+-- the facts of all links, whatever their days
+pub sound-links : (d : Directory) → sound d ≡ true → (l : Link) → List·Memᴰ l (rowsOf d .links) → LinkFacts (rowsOf d) l
 unfolding sound
-sound-gives d e =
+sound-links d e = link-facts (rowsOf d) (tables (rowsOf d) (and-both (withinLimits d) (soundRows (rowsOf d)) e .1))
+
+-- how many there are
+pub few-links : (d : Directory) → sound d ≡ true → length (rowsOf d .links) ≤ linkLimit
+unfolding sound
+few-links d e = few (d .links .count) linkLimit (d .links .rows) (limits d (and-both (withinLimits d) (soundRows (rowsOf d)) e .0) .links)
+
+-- the facts of a day; those of the other tables are the same on every day
+pub sound-gives : (d : Directory) → sound d ≡ true → (day : ℕ) → Facts (rowsOn day d)
+unfolding sound
+sound-gives d e day =
     let r : Rows = rowsOf d in
     let parts = and-both (withinLimits d) (soundRows r) e in
     let L : WithinLimits d = limits d (parts .0) in
     let S : SoundTables r = tables r (parts .1) in
-    let fewCsds : length (r .csds) ≤ csdLimit = few (d .csds .count) csdLimit (d .csds .rows) (L .csds) in
+    let seen = of-day day (r .links) in
+    let both : (l k : Link) → List·Memᴰ l (linksOf day (r .links)) → List·Memᴰ k (linksOf day (r .links)) → ShareDay l k = λ l k m n. (day, seen l m .1, seen k n .1) in
     record {
-      fewCsds = fewCsds;
+      fewCsds = few (d .csds .count) csdLimit (d .csds .rows) (L .csds);
       fewSecurities = few (d .securities .count) securityLimit (d .securities .rows) (L .securities);
       fewAccounts = few (d .accounts .count) accountLimit (d .accounts .rows) (L .accounts);
       fewPairs = few (d .pairs .count) pairLimit (d .pairs .rows) (L .pairs);
-      fewLinks = few (d .links .count) linkLimit (d .links .rows) (L .links);
       homeRow = λ a c h. home-of r S a c h .0;
       homes = λ a c h. home-of r S a c h .1;
-      pairs = pair-facts r S;
+      pairs = λ p m. pair-stays r (onDay day r) (Longer.of-day day r) p (pair-facts r S p m);
       onePair = λ p q m n f g h. one-pair r S p q m n (λ b i j. twice-served r b p q i j f g h) (λ b i j. twice-served r b q p i j (sym f) (sym g) (sym h));
       oneDuo = λ p q m n a ne u v. one-duo r S p q m n (λ b i j. shared-duo r b p q i j a ne u v) (λ b i j. duo-turned q p (shared-duo r b q p i j a ne v u));
-      links = link-facts r S;
-      oneIssuer = λ l k m n z s c. one-link r S l k m n (λ b i j. beside-issuer r b l k i j (sym s) (sym c) (inl z)) (λ b i j. beside-issuer r b k l i j s c (inr z));
-      oneDefault = λ l k m n x y f g s c. one-link r S l k m n (λ b i j. twice-default r b l k i j (sym s) (sym c) x y f) (λ b i j. twice-default r b k l i j s c y x g);
-      oneTechnical = λ l k m n x y s c t. one-link r S l k m n
-          (λ b i j. twice-technical r b l k i j (sym s) (sym c) x y (sym t) (technical-named r S fewCsds l m x))
-          (λ b i j. twice-technical r b k l i j s c y x t (technical-named r S fewCsds k n y));
+      links = λ l m. link-stays r (onDay day r) (Longer.of-day day r) l (link-facts r S l (seen l m .0));
+      oneIssuer = λ l k m n z s c. one-link r S l k (seen l m .0) (seen k n .0)
+          (λ b i j. beside-issuer r b l k i j (sym s) (sym c) (both l k m n) (inl z)) (λ b i j. beside-issuer r b k l i j s c (both k l n m) (inr z));
+      oneDefault = λ l k m n x y f g s c. one-link r S l k (seen l m .0) (seen k n .0)
+          (λ b i j. twice-default r b l k i j (sym s) (sym c) (both l k m n) x y f g) (λ b i j. twice-default r b k l i j s c (both k l n m) y x g f);
     }

@@ -7,7 +7,7 @@ use lib.Dec.{ltb, eqb}
 use lib.ListN.{length, drop}
 use Rattle.rules.specs.Types.{Directory, Half, SidedHalf, Step, Answer, Accepted, Booked, Chained, Refused, SecurityTotal, SumUnits, NoUnits, CashTotal, SumCents, NoCents}
 use Rattle.rules.specs.Tests.{Condition, _when_, firstOf}
-use Rattle.rules.specs.Directory.{rowsOf}
+use Rattle.rules.specs.Directory.{rowsOf, rowsOn}
 use Rattle.rules.specs.Entries.{Row, rowConditions, addRow, emptyDirectory, sound}
 use Rattle.rules.specs.Lookups.{Lookups, ask}
 use Rattle.rules.specs.Chain.{Chain, chain, stepsOf, chainConditions, stepLimit}
@@ -25,14 +25,15 @@ pub data Halves : Type 0 where
   ordered : Half → Half → Halves
   sided : SidedHalf → SidedHalf → Halves
 
--- A call with its operands: an entry; a bring-in or take-out of an account, a security and a quantity; a pay-in or pay-out of an
--- account and an amount; a settlement or derivation of two halves with the step list that it is lent.
+-- A call with its operands: an entry; a bring-in or take-out of an account, a security and a quantity on a day; a pay-in or pay-out of an
+-- account and an amount; a settlement or derivation of two halves on a day with the step list that it is lent. "Derive, settle, bring in and take out
+-- carry a day .., and only links valid on it are seen." (02)
 pub data Call : Type 0 where
   enter : Row → Call
-  move : Way → ℕ → ℕ → ℕ → Call
+  move : Way → ℕ → ℕ → ℕ → ℕ → Call
   pay : Way → ℕ → ℕ → Call
-  settle : Halves → List Step → Call
-  derive : Halves → List Step → Call
+  settle : Halves → ℕ → List Step → Call
+  derive : Halves → ℕ → List Step → Call
 
 -- ---- what an answer says
 
@@ -154,19 +155,19 @@ settleConditions k p c hs = deriveConditions k hs ++ bookConditions k p c (deliv
 -- 3: "positions not 4,096, cash not 256, steps below 16", for the lists that a call is lent
 unfoldable pub misfit : Call → Store → Bool
 misfit (enter x) st = false
-misfit (move w a s q) st = not (eqb (length (st .positions)) positionCount)
+misfit (move w a s q day) st = not (eqb (length (st .positions)) positionCount)
 misfit (pay w a m) st = not (eqb (length (st .cash)) cashCount)
-misfit (settle hs lent) st =
+misfit (settle hs day lent) st =
     not (eqb (length (st .positions)) positionCount) || (not (eqb (length (st .cash)) cashCount) || ltb (length lent) stepLimit)
-misfit (derive hs lent) st = ltb (length lent) stepLimit
+misfit (derive hs day lent) st = ltb (length lent) stepLimit
 
 -- from 5 on
 abbrev pub coreConditions : Call → Store → List Condition
 coreConditions (enter x) st = rowConditions (rowsOf (st .directory)) x
-coreConditions (move w a s q) st = moveConditions (ask (rowsOf (st .directory))) (st .positions) w a s q
+coreConditions (move w a s q day) st = moveConditions (ask (rowsOn day (st .directory))) (st .positions) w a s q
 coreConditions (pay w a m) st = payConditions (ask (rowsOf (st .directory))) (st .cash) w a m
-coreConditions (settle hs lent) st = settleConditions (ask (rowsOf (st .directory))) (st .positions) (st .cash) hs
-coreConditions (derive hs lent) st = deriveConditions (ask (rowsOf (st .directory))) hs
+coreConditions (settle hs day lent) st = settleConditions (ask (rowsOn day (st .directory))) (st .positions) (st .cash) hs
+coreConditions (derive hs day lent) st = deriveConditions (ask (rowsOn day (st .directory))) hs
 
 -- 3, 4, which is "not sound", and from 5 on
 abbrev pub deskConditions : Call → Store → List Condition
@@ -183,40 +184,40 @@ pub record Outcome : Type 0 where
 -- the step list that a call is lent
 abbrev pub lentSteps : Call → List Step
 lentSteps (enter x) = []
-lentSteps (move w a s q) = []
+lentSteps (move w a s q day) = []
 lentSteps (pay w a m) = []
-lentSteps (settle hs lent) = lent
-lentSteps (derive hs lent) = lent
+lentSteps (settle hs day lent) = lent
+lentSteps (derive hs day lent) = lent
 
 -- the chain that a call books or derives
 abbrev pub chainFor : Call → Store → List Step
 chainFor (enter x) st = []
-chainFor (move w a s q) st = stepsOf (moveChain (ask (rowsOf (st .directory))) w a s)
+chainFor (move w a s q day) st = stepsOf (moveChain (ask (rowsOn day (st .directory))) w a s)
 chainFor (pay w a m) st = []
-chainFor (settle hs lent) st = stepsOf (halvesChain (ask (rowsOf (st .directory))) hs)
-chainFor (derive hs lent) st = stepsOf (halvesChain (ask (rowsOf (st .directory))) hs)
+chainFor (settle hs day lent) st = stepsOf (halvesChain (ask (rowsOn day (st .directory))) hs)
+chainFor (derive hs day lent) st = stepsOf (halvesChain (ask (rowsOn day (st .directory))) hs)
 
 -- what an accepted call answers: K is the chain's length
 abbrev pub success : Call → Store → Answer
 success (enter x) st = Accepted
-success (move w a s q) st = Accepted
+success (move w a s q day) st = Accepted
 success (pay w a m) st = Accepted
-success (settle hs lent) st = Booked (length (chainFor (settle hs lent) st))
-success (derive hs lent) st = Chained (length (chainFor (derive hs lent) st))
+success (settle hs day lent) st = Booked (length (chainFor (settle hs day lent) st))
+success (derive hs day lent) st = Chained (length (chainFor (derive hs day lent) st))
 
 -- the store that an accepted call leaves
 abbrev pub changed : Call → Store → Store
 changed (enter x) st = record { directory = addRow x (st .directory); positions = st .positions; cash = st .cash }
-changed (move w a s q) st =
-    record { directory = st .directory; positions = booked (chainFor (move w a s q) st) s q (st .positions); cash = st .cash }
+changed (move w a s q day) st =
+    record { directory = st .directory; positions = booked (chainFor (move w a s q day) st) s q (st .positions); cash = st .cash }
 changed (pay w a m) st = record { directory = st .directory; positions = st .positions; cash = addCents (st .cash) a (payment w m) }
-changed (settle hs lent) st =
+changed (settle hs day lent) st =
     record {
       directory = st .directory;
-      positions = booked (chainFor (settle hs lent) st) (delivering hs .security) (delivering hs .quantity) (st .positions);
+      positions = booked (chainFor (settle hs day lent) st) (delivering hs .security) (delivering hs .quantity) (st .positions);
       cash = paid (st .cash) (receiving hs .account) (delivering hs .account) (delivering hs .amount);
     }
-changed (derive hs lent) st = st
+changed (derive hs day lent) st = st
 
 -- "steps go into a lent list of at least 16 steps, the rest untouched"
 abbrev pub written : List Step → List Step → List Step
@@ -225,10 +226,10 @@ written steps lent = steps ++ drop (length steps) lent
 -- the lent step list after an accepted call
 abbrev pub writtenFor : Call → Store → List Step
 writtenFor (enter x) st = []
-writtenFor (move w a s q) st = []
+writtenFor (move w a s q day) st = []
 writtenFor (pay w a m) st = []
-writtenFor (settle hs lent) st = written (chainFor (settle hs lent) st) lent
-writtenFor (derive hs lent) st = written (chainFor (derive hs lent) st) lent
+writtenFor (settle hs day lent) st = written (chainFor (settle hs day lent) st) lent
+writtenFor (derive hs day lent) st = written (chainFor (derive hs day lent) st) lent
 
 -- by the refusal's number: "nothing lent or handed in changes"
 abbrev pub outcome : ℕ → Call → Store → Outcome

@@ -9,7 +9,7 @@ use lib.Signed.{_≤ℤ_}
 use lib.Dec.{eqb}
 use lib.ListN.{length}
 use Rattle.rules.specs.Types.{Account, Pair, Directory, Half, Step, Answer, Accepted, Booked, Chained, Refused, SumUnits, SumCents}
-use Rattle.rules.specs.Directory.{Rows, rowsOf, isKind, inBooks, noAccount, accountLimit, securityLimit}
+use Rattle.rules.specs.Directory.{Rows, rowsOf, onDay, rowsOn, isKind, inBooks, noAccount, accountLimit, securityLimit}
 use Rattle.rules.specs.Entries.{Row, csdRow, securityRow, accountRow, pairRow, linkRow, addRow, Sized}
 use Rattle.rules.specs.Lookups.{homeOf}
 use Rattle.rules.specs.Chain.{stepLimit}
@@ -40,13 +40,13 @@ pub record Demand1 : Type 0 where
 -- ---- Demand 2, the chain: "For two halves that nothing before 14 turns away, a derivation returns a chain exactly when document 01's T2S
 -- rules give one and its account pairs are entered, and it is that chain"
 
--- the steps are the chain of the half h, which delivers, and g, which receives
-abbrev pub ChainOfHalves : Store → Half → Half → List Step → Type 0
-ChainOfHalves st h g steps = ChainIs (rowsOf (st .directory)) (h .security) (h .account) (g .account) steps
+-- the steps are the chain of the half h, which delivers, and g, which receives, on a day
+abbrev pub ChainOfHalves : Store → ℕ → Half → Half → List Step → Type 0
+ChainOfHalves st day h g steps = ChainIs (rowsOn day (st .directory)) (h .security) (h .account) (g .account) steps
 
 -- "nothing before 14 turns away"
-abbrev pub Admitted : Store → Halves → List Step → Type 0
-Admitted st hs lent = (n : ℕ) → List·Memᴰ n beforeChain → Applies (derive hs lent) st n → ⊥
+abbrev pub Admitted : Store → Halves → ℕ → List Step → Type 0
+Admitted st hs day lent = (n : ℕ) → List·Memᴰ n beforeChain → Applies (derive hs day lent) st n → ⊥
 
 -- a call has answered this chain, and written it to the step list that it was lent
 pub record Returns (o : Outcome) (answer : Answer) (steps lent : List Step) : Type 0 where
@@ -55,14 +55,14 @@ pub record Returns (o : Outcome) (answer : Answer) (steps lent : List Step) : Ty
   pub few : length steps ≤ stepLimit
 
 -- a chain is answered exactly when the relation gives one, and it is that one; one of the halves delivers and the other receives
-pub record Derives (st : Store) (hs : Halves) (lent : List Step) : Type 0 where
+pub record Derives (st : Store) (hs : Halves) (day : ℕ) (lent : List Step) : Type 0 where
   pub delivering : Half
   pub receiving : Half
   pub sides : Delivers hs delivering receiving
-  pub whenGiven : (steps : List Step) → ChainOfHalves st delivering receiving steps → Returns (desk (derive hs lent) st) (Chained (length steps)) steps lent
-  pub onlyThen : (k : ℕ) → desk (derive hs lent) st .answer ≡ Chained k
-      → (steps : List Step) × ChainOfHalves st delivering receiving steps × (k ≡ length steps) × Returns (desk (derive hs lent) st) (Chained k) steps lent
-  pub one : (xs ys : List Step) → ChainOfHalves st delivering receiving xs → ChainOfHalves st delivering receiving ys → xs ≡ ys
+  pub whenGiven : (steps : List Step) → ChainOfHalves st day delivering receiving steps → Returns (desk (derive hs day lent) st) (Chained (length steps)) steps lent
+  pub onlyThen : (k : ℕ) → desk (derive hs day lent) st .answer ≡ Chained k
+      → (steps : List Step) × ChainOfHalves st day delivering receiving steps × (k ≡ length steps) × Returns (desk (derive hs day lent) st) (Chained k) steps lent
+  pub one : (xs ys : List Step) → ChainOfHalves st day delivering receiving xs → ChainOfHalves st day delivering receiving ys → xs ≡ ys
 
 -- ---- Demand 2, booking: "A pair is booked exactly when its halves agree on two participant accounts, it has a chain with every account
 -- pair entered, and holdings, cash and limits allow; all accounts then hold what the rules say."
@@ -117,26 +117,26 @@ pub record Allowed (st : Store) (h g : Half) (steps : List Step) : Type 0 where
   pub payeeLimit : h .amount ≢ 0 → Within (cashOn (st .cash) (h .account) +ℤ pos (h .amount))
 
 -- everything that a booking needs; h delivers, g receives
-pub record Bookable (st : Store) (hs : Halves) (lent : List Step) (h g : Half) (steps : List Step) : Type 0 where
-  pub fits : Misfits st (settle hs lent) → ⊥
+pub record Bookable (st : Store) (hs : Halves) (day : ℕ) (lent : List Step) (h g : Half) (steps : List Step) : Type 0 where
+  pub fits : Misfits st (settle hs day lent) → ⊥
   pub soundBooks : Sound (st .directory)
   pub sides : Delivers hs h g
   pub agree : Agree (rowsOf (st .directory)) h g
-  pub chain : ChainOfHalves st h g steps
+  pub chain : ChainOfHalves st day h g steps
   pub allowed : Allowed st h g steps
 
 -- a booked pair: its answer, its own chain, and every position and balance
-pub record BookedPair (st : Store) (hs : Halves) (lent : List Step) (h g : Half) (steps : List Step) : Type 0 where
-  pub returns : Returns (desk (settle hs lent) st) (Booked (length steps)) steps lent
-  pub directory : desk (settle hs lent) st .store .directory ≡ st .directory
-  pub positions : MovedUnits steps (h .security) (h .quantity) (st .positions) (desk (settle hs lent) st .store .positions)
-  pub cash : MovedCents (g .account) (h .account) (h .amount) (st .cash) (desk (settle hs lent) st .store .cash)
+pub record BookedPair (st : Store) (hs : Halves) (day : ℕ) (lent : List Step) (h g : Half) (steps : List Step) : Type 0 where
+  pub returns : Returns (desk (settle hs day lent) st) (Booked (length steps)) steps lent
+  pub directory : desk (settle hs day lent) st .store .directory ≡ st .directory
+  pub positions : MovedUnits steps (h .security) (h .quantity) (st .positions) (desk (settle hs day lent) st .store .positions)
+  pub cash : MovedCents (g .account) (h .account) (h .amount) (st .cash) (desk (settle hs day lent) st .store .cash)
 
 -- booked exactly when bookable
-pub record Books (st : Store) (hs : Halves) (lent : List Step) : Type 0 where
-  pub whenBookable : (h g : Half) (steps : List Step) → Bookable st hs lent h g steps → BookedPair st hs lent h g steps
-  pub onlyThen : (k : ℕ) → desk (settle hs lent) st .answer ≡ Booked k
-      → (h g : Half) × (steps : List Step) × Bookable st hs lent h g steps × (k ≡ length steps) × BookedPair st hs lent h g steps
+pub record Books (st : Store) (hs : Halves) (day : ℕ) (lent : List Step) : Type 0 where
+  pub whenBookable : (h g : Half) (steps : List Step) → Bookable st hs day lent h g steps → BookedPair st hs day lent h g steps
+  pub onlyThen : (k : ℕ) → desk (settle hs day lent) st .answer ≡ Booked k
+      → (h g : Half) × (steps : List Step) × Bookable st hs day lent h g steps × (k ≡ length steps) × BookedPair st hs day lent h g steps
 
 -- ---- Demand 2, every call: "accepted exactly when no number applies, and then changes what the document says and no more"
 
@@ -180,10 +180,10 @@ Changes (enter x) st st′ =
     × (Sized (st .directory) → rowsOf (st′ .directory) ≡ withRow x (rowsOf (st .directory)))
     × (st′ .positions ≡ st .positions)
     × (st′ .cash ≡ st .cash)
-Changes (move w a s q) st st′ =
+Changes (move w a s q day) st st′ =
     (st′ .directory ≡ st .directory)
     × ((other : ℕ)
-    × ContraOf (rowsOf (st .directory)) s (homeOf (rowsOf (st .directory) .accounts) a) a other
+    × ContraOf (rowsOn day (st .directory)) s (homeOf (rowsOf (st .directory) .accounts) a) a other
     × MovedUnits (moveStep w (homeOf (rowsOf (st .directory) .accounts) a) a other ∷ []) s q (st .positions) (st′ .positions))
     × (st′ .cash ≡ st .cash)
 Changes (pay w a m) st st′ =
@@ -191,13 +191,13 @@ Changes (pay w a m) st st′ =
     × (st′ .positions ≡ st .positions)
     × (cashOn (st′ .cash) a ≡ cashOn (st .cash) a +ℤ payment w m .0)
     × ((b : ℕ) → b ≢ a → cashOn (st′ .cash) b ≡ cashOn (st .cash) b)
-Changes (settle hs lent) st st′ = (h g : Half) × (steps : List Step) × Delivers hs h g × BookedPair st hs lent h g steps
-Changes (derive hs lent) st st′ = st′ ≡ st
+Changes (settle hs day lent) st st′ = (h g : Half) × (steps : List Step) × Delivers hs h g × BookedPair st hs day lent h g steps
+Changes (derive hs day lent) st st′ = st′ ≡ st
 
 -- for every store, halves, step list and call
 pub record Demand2 : Type 0 where
-  pub derives : (st : Store) (hs : Halves) (lent : List Step) → Admitted st hs lent → Derives st hs lent
-  pub books : (st : Store) (hs : Halves) (lent : List Step) → Books st hs lent
+  pub derives : (st : Store) (hs : Halves) (day : ℕ) (lent : List Step) → Admitted st hs day lent → Derives st hs day lent
+  pub books : (st : Store) (hs : Halves) (day : ℕ) (lent : List Step) → Books st hs day lent
   pub ruled : (c : Call) (st : Store) → Ruled c st
   pub changes : (c : Call) (st : Store) → isAccepted (desk c st .answer) ≡ true → Changes c st (desk c st .store)
   pub totals : Totalled
@@ -208,10 +208,10 @@ pub record Demand2 : Type 0 where
 -- the rows after an accepted call
 abbrev pub grown : Call → Rows → Rows
 grown (enter x) r = withRow x r
-grown (move w a s q) r = r
+grown (move w a s q day) r = r
 grown (pay w a m) r = r
-grown (settle hs lent) r = r
-grown (derive hs lent) r = r
+grown (settle hs day lent) r = r
+grown (derive hs day lent) r = r
 
 -- "the directory that the accepted calls before it make by the rules"; the newest item stands first. An account's number is the count
 -- of account entries accepted before it
@@ -227,10 +227,10 @@ signed outgoing n = negℤ (pos n)
 -- "per security, the quantities of accepted bring-ins less those of accepted take-outs, on whatever account"
 abbrev pub brings : Call → ℕ → ℤ
 brings (enter x) s = pos 0
-brings (move w a t q) s = cond (eqb t s) (signed w q) (pos 0)
+brings (move w a t q day) s = cond (eqb t s) (signed w q) (pos 0)
 brings (pay w a m) s = pos 0
-brings (settle hs lent) s = pos 0
-brings (derive hs lent) s = pos 0
+brings (settle hs day lent) s = pos 0
+brings (derive hs day lent) s = pos 0
 
 -- brought in less taken out, over a list of items
 unfoldable pub brought : List Item → ℕ → ℤ
@@ -240,10 +240,10 @@ brought (i ∷ h) s = brought h s +ℤ cond (isAccepted (i .answer)) (brings (i 
 -- "for pay-ins and pay-outs likewise with amounts, over all accounts"
 abbrev pub pays : Call → ℤ
 pays (enter x) = pos 0
-pays (move w a t q) = pos 0
+pays (move w a t q day) = pos 0
 pays (pay w a m) = signed w m
-pays (settle hs lent) = pos 0
-pays (derive hs lent) = pos 0
+pays (settle hs day lent) = pos 0
+pays (derive hs day lent) = pos 0
 
 -- paid in less paid out, over a list of items
 unfoldable pub paidIn : List Item → ℤ
@@ -261,7 +261,7 @@ pub record Unchanged (i : Item) : Type 0 where
   pub cash : i .cashLeft ≡ i .cash
 
 -- "each booked settlement moved exactly its chain and its amount and nothing else": the chain is the one that document 01 gives over the
--- directory r
+-- rows r, those of its day
 pub record Settled (r : Rows) (hs : Halves) (i : Item) : Type 0 where
   pub delivering : Half
   pub receiving : Half
@@ -286,10 +286,10 @@ unlessAccepted false i = Unchanged i
 -- "every other settlement, derivation or refused call changed nothing"; an entry changes the directory alone
 abbrev pub Changed : Call → Rows → Item → Type 0
 Changed (enter x) r i = Unchanged i
-Changed (move w a s q) r i = unlessAccepted (isAccepted (i .answer)) i
+Changed (move w a s q day) r i = unlessAccepted (isAccepted (i .answer)) i
 Changed (pay w a m) r i = unlessAccepted (isAccepted (i .answer)) i
-Changed (settle hs lent) r i = settledBy (i .answer) r hs i
-Changed (derive hs lent) r i = Unchanged i
+Changed (settle hs day lent) r i = settledBy (i .answer) (onDay day r) hs i
+Changed (derive hs day lent) r i = Unchanged i
 
 -- of every item, over the directory that the items before it make
 abbrev pub EachChanged : List Item → Type 0

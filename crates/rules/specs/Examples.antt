@@ -8,7 +8,7 @@ use lib.Dec.{eqb, leb}
 use lib.ListN.{length}
 use Rattle.rules.specs.Types.{Csd, Account, Pair, Link, Step, Half, Answer, Accepted, Booked}
 use Rattle.rules.specs.Identifiers.{isinSum, isinChecks, isinSumLeft}
-use Rattle.rules.specs.Directory.{Rows, noCsd, noAccount}
+use Rattle.rules.specs.Directory.{Rows, onDay, noCsd, noAccount}
 use Rattle.rules.specs.Entries.{csdRow, securityRow, accountRow, pairRow, linkRow, soundRows}
 use Rattle.rules.specs.Lookups.{ask}
 use Rattle.rules.specs.Chain.{Chain, chained, unchained, chain, generated}
@@ -86,11 +86,15 @@ pairsFor acc a (issuer c ∷ ds) = pairsFor acc a ds
 pairsFor acc a ((c ⟶ n) ∷ ds) = map (pairFor a c n) (servedOf c 0 acc) ++ pairsFor acc (a + length (pairAccounts c n)) ds
 pairsFor acc a ((c ⇢ n) ∷ ds) = map (pairFor a c n) (servedOf c 0 acc) ++ pairsFor acc (a + length (pairAccounts c n)) ds
 
+-- "01's example takes days 0 to 65,535 and day 0" (02)
+abbrev lastDay : ℕ
+lastDay = 0xffff
+
 -- a link drawn, for security 0
 abbrev linkFor : Drawn → Link
-linkFor (issuer c) = record { security = 0; kind = 0; csd = c; technical = noCsd; flag = 1; account = c * 3 + 2 }
-linkFor (c ⟶ n) = record { security = 0; kind = 1; csd = c; technical = n; flag = 1; account = noAccount }
-linkFor (c ⇢ n) = record { security = 0; kind = 1; csd = c; technical = n; flag = 0; account = noAccount }
+linkFor (issuer c) = record { security = 0; kind = 0; csd = c; technical = noCsd; flag = 1; account = c * 3 + 2; first = 0; last = lastDay }
+linkFor (c ⟶ n) = record { security = 0; kind = 1; csd = c; technical = n; flag = 1; account = noAccount; first = 0; last = lastDay }
+linkFor (c ⇢ n) = record { security = 0; kind = 1; csd = c; technical = n; flag = 0; account = noAccount; first = 0; last = lastDay }
 
 -- a CSD of a type and BIC
 abbrev pub csdAs : ℕ → List ℕ → Csd
@@ -157,7 +161,7 @@ passed (unchained n) = refused n
 
 -- a delivery between participants of the two CSDs
 abbrev pub derived : Example → Passed
-derived e = passed (chain (ask (drawn (e .links))) 0 (e .from * 3) (e .to * 3 + 1))
+derived e = passed (chain (ask (onDay 0 (drawn (e .links)))) 0 (e .from * 3) (e .to * 3 + 1))
 
 -- ---- the sample run
 
@@ -179,10 +183,10 @@ sampleCalls =
     ∷ enter (accountRow (record { csd = 1; kind = 4 }))
     ∷ enter (accountRow (record { csd = 1; kind = 0 }))
     ∷ enter (pairRow (record { investor = 0; technical = 1; mirror = 1; omnibus = 2; served = 0 }))
-    ∷ enter (linkRow (record { security = 0; kind = 0; csd = 1; technical = noCsd; flag = 1; account = 3 }))
-    ∷ enter (linkRow (record { security = 0; kind = 1; csd = 0; technical = 1; flag = 1; account = noAccount }))
-    ∷ move incoming 4 0 100
-    ∷ settle (ordered (half 4 0) (half 0 1)) programSteps
+    ∷ enter (linkRow (record { security = 0; kind = 0; csd = 1; technical = noCsd; flag = 1; account = 3; first = 0; last = lastDay }))
+    ∷ enter (linkRow (record { security = 0; kind = 1; csd = 0; technical = 1; flag = 1; account = noAccount; first = 0; last = lastDay }))
+    ∷ move incoming 4 0 100 0
+    ∷ settle (ordered (half 4 0) (half 0 1)) 0 programSteps
     ∷ []
 
 -- the answers, newest first: `booked 2` and twelve times `ok`
@@ -198,6 +202,10 @@ samplePositions = pos 40 ∷ negsuc 39 ∷ pos 40 ∷ negsuc 99 ∷ pos 60 ∷ [
 abbrev quantity : ℕ → List ℕ
 quantity q = 0 ∷ 0 ∷ 0 ∷ 0 ∷ 0 ∷ 0 ∷ 0 ∷ q ∷ []
 
+-- day 0, as its bytes
+abbrev pub sampleDay : List ℕ
+sampleDay = 0 ∷ 0 ∷ []
+
 -- the sample's commands up to its pair, as the bytes that `realign` reads
 abbrev pub sampleStart : List ℕ
 sampleStart =
@@ -210,9 +218,9 @@ sampleStart =
     ++ (3 ∷ 1 ∷ 4 ∷ [])
     ++ (3 ∷ 1 ∷ 0 ∷ [])
     ++ (14 ∷ 0 ∷ 1 ∷ 0 ∷ 1 ∷ 0 ∷ 2 ∷ 0 ∷ 0 ∷ [])
-    ++ (5 ∷ 0 ∷ 0 ∷ 1 ∷ 0xff ∷ 1 ∷ 0 ∷ 3 ∷ [])
-    ++ (5 ∷ 0 ∷ 1 ∷ 0 ∷ 1 ∷ 1 ∷ 0xff ∷ 0xff ∷ [])
-    ++ ((6 ∷ 0 ∷ 4 ∷ 0 ∷ []) ++ quantity 100)
+    ++ (5 ∷ 0 ∷ 0 ∷ 1 ∷ 0xff ∷ 1 ∷ 0 ∷ 3 ∷ 0 ∷ 0 ∷ 0xff ∷ 0xff ∷ [])
+    ++ (5 ∷ 0 ∷ 1 ∷ 0 ∷ 1 ∷ 1 ∷ 0xff ∷ 0xff ∷ 0 ∷ 0 ∷ 0xff ∷ 0xff ∷ [])
+    ++ ((6 ∷ 0 ∷ 4 ∷ 0 ∷ []) ++ quantity 100 ++ sampleDay)
 
 -- its halves
 abbrev pub sampleDelivering : List ℕ
@@ -223,7 +231,7 @@ sampleReceiving = (0 ∷ 0 ∷ 1 ∷ 0 ∷ []) ++ quantity 40 ++ quantity 0
 
 -- the whole
 unfoldable pub sampleInput : List ℕ
-sampleInput = sampleStart ++ ((10 ∷ sampleDelivering) ++ sampleReceiving)
+sampleInput = sampleStart ++ ((10 ∷ sampleDelivering) ++ sampleReceiving ++ sampleDay)
 
 -- "Output: `1 ok` to `12 ok`, a line each, then" the answer to the pair and the rest
 abbrev pub outputWith : List ℕ → List ℕ

@@ -16,25 +16,25 @@ pub data Made (st : Store) : Call → Answer → Store → Type 0 where
   -- enter_csd, enter_security, enter_account, enter_pair, enter_link
   entered : (x : Row) (r : Entered) → r ≡ enteredOn (st .directory) x → Made st (enter x) (r .answer) (holding (r .directory) (st .positions) (st .cash))
   -- bring_in, take_out
-  moved : (w : Way) (a s q : ℕ) (r : Answer) (p : List ℤ)
-      → (r ≡ movementOn (st .directory) (st .positions) w a s q .answer) × (p ≡ movementOn (st .directory) (st .positions) w a s q .store .positions)
-      → Made st (move w a s q) r (holding (st .directory) p (st .cash))
+  moved : (w : Way) (a s q day : ℕ) (r : Answer) (p : List ℤ)
+      → (r ≡ movementOn (st .directory) (st .positions) w a s q day .answer) × (p ≡ movementOn (st .directory) (st .positions) w a s q day .store .positions)
+      → Made st (move w a s q day) r (holding (st .directory) p (st .cash))
   -- pay_in, pay_out
   paid : (w : Way) (a m : ℕ) (r : Answer) (c : List ℤ) → (r ≡ paymentOn (st .directory) (st .cash) w a m .answer) × (c ≡ paymentOn (st .directory) (st .cash) w a m .store .cash)
       → Made st (pay w a m) r (holding (st .directory) (st .positions) c)
   -- settle, settle_sided
-  settled : (hs : Halves) (lent : List Step) (r : Answer) (p c : List ℤ) (steps : List Step) → (r ≡ settlementOn (st .directory) (st .positions) (st .cash) lent hs .answer)
-      × (p ≡ settlementOn (st .directory) (st .positions) (st .cash) lent hs .store .positions) × (c ≡ settlementOn (st .directory) (st .positions) (st .cash) lent hs .store .cash)
-      × (steps ≡ settlementOn (st .directory) (st .positions) (st .cash) lent hs .steps) → Made st (settle hs lent) r (holding (st .directory) p c)
+  settled : (hs : Halves) (day : ℕ) (lent : List Step) (r : Answer) (p c : List ℤ) (steps : List Step) → (r ≡ settlementOn (st .directory) (st .positions) (st .cash) lent hs day .answer)
+      × (p ≡ settlementOn (st .directory) (st .positions) (st .cash) lent hs day .store .positions) × (c ≡ settlementOn (st .directory) (st .positions) (st .cash) lent hs day .store .cash)
+      × (steps ≡ settlementOn (st .directory) (st .positions) (st .cash) lent hs day .steps) → Made st (settle hs day lent) r (holding (st .directory) p c)
   -- settle_reply, settle_sided_reply, which are told how many steps are lent; settle_by_value with 16
-  settledByValue : (n : ℕ) (hs : Halves) (r : Reply) (p c : List ℤ) → (r ≡ replyOf (settlementOn (st .directory) (st .positions) (st .cash) (blanks n) hs))
-      × (p ≡ settlementOn (st .directory) (st .positions) (st .cash) (blanks n) hs .store .positions)
-      × (c ≡ settlementOn (st .directory) (st .positions) (st .cash) (blanks n) hs .store .cash) → Made st (settle hs (blanks n)) (r .answer) (holding (st .directory) p c)
+  settledByValue : (n : ℕ) (hs : Halves) (day : ℕ) (r : Reply) (p c : List ℤ) → (r ≡ replyOf (settlementOn (st .directory) (st .positions) (st .cash) (blanks n) hs day))
+      × (p ≡ settlementOn (st .directory) (st .positions) (st .cash) (blanks n) hs day .store .positions)
+      × (c ≡ settlementOn (st .directory) (st .positions) (st .cash) (blanks n) hs day .store .cash) → Made st (settle hs day (blanks n)) (r .answer) (holding (st .directory) p c)
   -- derive, derive_sided
-  derived : (hs : Halves) (lent : List Step) (r : Answer) (steps : List Step) → (r ≡ derivationOn (st .directory) lent hs .answer) × (steps ≡ derivationOn (st .directory) lent hs .steps)
-      → Made st (derive hs lent) r st
+  derived : (hs : Halves) (day : ℕ) (lent : List Step) (r : Answer) (steps : List Step) → (r ≡ derivationOn (st .directory) lent hs day .answer) × (steps ≡ derivationOn (st .directory) lent hs day .steps)
+      → Made st (derive hs day lent) r st
   -- derive_reply, derive_sided_reply, derive_by_value
-  derivedByValue : (n : ℕ) (hs : Halves) (r : Reply) → r ≡ replyOf (derivationOn (st .directory) (blanks n) hs) → Made st (derive hs (blanks n)) (r .answer) st
+  derivedByValue : (n : ℕ) (hs : Halves) (day : ℕ) (r : Reply) → r ≡ replyOf (derivationOn (st .directory) (blanks n) hs day) → Made st (derive hs day (blanks n)) (r .answer) st
 
 -- "Each call is handed the directory that the last one returned and the positions and cash that it left"
 pub data DeskLog : List Item → Store → Type 0 where

@@ -18,21 +18,21 @@ holding d p c = record { directory = d; positions = p; cash = c }
 abbrev pub entryOn : Directory → Row → Outcome
 entryOn d x = desk (enter x) (holding d [] [])
 
--- a bring-in or take-out: the way, the account, the security and the quantity
-abbrev pub movementOn : Directory → List ℤ → Way → ℕ → ℕ → ℕ → Outcome
-movementOn d p w a s q = desk (move w a s q) (holding d p [])
+-- a bring-in or take-out: the way, the account, the security, the quantity and the day
+abbrev pub movementOn : Directory → List ℤ → Way → ℕ → ℕ → ℕ → ℕ → Outcome
+movementOn d p w a s q day = desk (move w a s q day) (holding d p [])
 
 -- a pay-in or pay-out: the way, the account and the amount
 abbrev pub paymentOn : Directory → List ℤ → Way → ℕ → ℕ → Outcome
 paymentOn d c w a m = desk (pay w a m) (holding d [] c)
 
--- a settlement of two halves that is lent positions, cash and steps
-abbrev pub settlementOn : Directory → List ℤ → List ℤ → List Step → Halves → Outcome
-settlementOn d p c lent hs = desk (settle hs lent) (holding d p c)
+-- a settlement of two halves on a day that is lent positions, cash and steps
+abbrev pub settlementOn : Directory → List ℤ → List ℤ → List Step → Halves → ℕ → Outcome
+settlementOn d p c lent hs day = desk (settle hs day lent) (holding d p c)
 
--- a derivation that is lent steps
-abbrev pub derivationOn : Directory → List Step → Halves → Outcome
-derivationOn d lent hs = desk (derive hs lent) (holding d [] [])
+-- a derivation on a day that is lent steps
+abbrev pub derivationOn : Directory → List Step → Halves → ℕ → Outcome
+derivationOn d lent hs day = desk (derive hs day lent) (holding d [] [])
 
 -- what an entry answers, and the directory after it
 abbrev pub enteredOn : Directory → Row → Entered

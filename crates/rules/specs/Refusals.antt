@@ -9,7 +9,7 @@ use lib.Signed.{_<ℤ_}
 use lib.ListN.{length, take}
 use Rattle.rules.specs.Types.{Csd, Security, Account, Pair, Link, Directory, Half, SidedHalf, Step, WalkEnd, Inside, Outside, NoLink, Join}
 use Rattle.rules.specs.Identifiers.{byteAt}
-use Rattle.rules.specs.Directory.{Rows, rowsOf, csdLimit, securityLimit, accountLimit, pairLimit, linkLimit, noCsd, noAccount}
+use Rattle.rules.specs.Directory.{Rows, rowsOf, rowsOn, csdLimit, securityLimit, accountLimit, pairLimit, linkLimit, noCsd, noAccount}
 use Rattle.rules.specs.Lookups.{homeOf}
 use Rattle.rules.specs.Entries.{Row, csdRow, securityRow, accountRow, pairRow, linkRow}
 use Rattle.rules.specs.Chain.{stepLimit}
@@ -19,9 +19,9 @@ use Rattle.rules.specs.Relations.{Is, External, InT2S, IssuerOf, Default
 
 -- ---- the numbers
 
--- the numbers before 14; 23 stands "just before 12"
+-- the numbers before 14; 24 stands "just before 11", 23 "just before 12"
 abbrev pub beforeChain : List ℕ
-beforeChain = 3 ∷ 4 ∷ 5 ∷ 6 ∷ 7 ∷ 8 ∷ 9 ∷ 10 ∷ 11 ∷ 23 ∷ 12 ∷ 13 ∷ []
+beforeChain = 3 ∷ 4 ∷ 5 ∷ 6 ∷ 7 ∷ 8 ∷ 9 ∷ 10 ∷ 24 ∷ 11 ∷ 23 ∷ 12 ∷ 13 ∷ []
 
 -- "Refusals by place": the numbers in the order of their places
 abbrev pub places : List ℕ
@@ -162,7 +162,16 @@ pub record Linked (ls : List Link) (s c : ℕ) (l : Link) : Type 0 where
   pub security : l .security ≡ s
   pub csd : l .csd ≡ c
 
--- 05: a link
+-- the link is valid on the day: "a first and last day .., both included"
+pub record ValidOn (day : ℕ) (l : Link) : Type 0 where
+  pub begun : l .first ≤ day
+  pub notOver : day ≤ l .last
+
+-- "two periods share a day"
+abbrev pub ShareDay : Link → Link → Type 0
+ShareDay x l = (day : ℕ) × ValidOn day x × ValidOn day l
+
+-- 05: a link. "The rules on one default, other technical issuers and issuer links are judged wherever two periods share a day" (02)
 pub data LinkRefused (cs : List Csd) (ss : List Security) (acc : List Account) (ls : List Link) (x : Link) : ℕ → Type 0 where
   linksFull : linkLimit ≤ length ls → LinkRefused cs ss acc ls x 5
   securityUnknown : NoRow ss (x .security) → LinkRefused cs ss acc ls x 6
@@ -173,22 +182,25 @@ pub data LinkRefused (cs : List Csd) (ss : List Security) (acc : List Account) (
   accountDue : NoRow acc (x .account) → x .kind ≡ 0 → InT2S cs (x .csd) → LinkRefused cs ss acc ls x 6
   neitherKind : x .kind ≢ 0 → x .kind ≢ 1 → LinkRefused cs ss acc ls x 7
   neitherFlag : x .flag ≢ 0 → x .flag ≢ 1 → LinkRefused cs ss acc ls x 7
-  issuerEntered : (l : Link) → LinkTo cs ls (x .security) (x .technical) (x .csd) l → x .technical ≢ noCsd → LinkRefused cs ss acc ls x 9
+  issuerEntered : (l : Link) → LinkTo cs ls (x .security) (x .technical) (x .csd) l → ShareDay x l → x .technical ≢ noCsd → LinkRefused cs ss acc ls x 9
   -- "An issuer link has technical issuer hex FF, flag 1, and an issuance account of its CSD (hex FFFF if external); that CSD has no other
   -- link for the security."
   accountOfOther : x .kind ≡ 0 → InT2S cs (x .csd) → (y : Account) → Is acc (x .account) y → y .csd ≢ x .csd → LinkRefused cs ss acc ls x 10
   noIssuance : x .kind ≡ 0 → InT2S cs (x .csd) → (y : Account) → Is acc (x .account) y → y .kind ≢ 4 → LinkRefused cs ss acc ls x 10
+  firstAfterLast : x .last < x .first → LinkRefused cs ss acc ls x 24
   issuerNotDue : x .kind ≡ 0 → x .technical ≢ noCsd → LinkRefused cs ss acc ls x 11
   issuerFlag : x .kind ≡ 0 → x .flag ≢ 1 → LinkRefused cs ss acc ls x 11
   accountNotDue : x .kind ≡ 0 → External cs (x .csd) → x .account ≢ noAccount → LinkRefused cs ss acc ls x 11
-  besideLink : x .kind ≡ 0 → (l : Link) → Linked ls (x .security) (x .csd) l → LinkRefused cs ss acc ls x 11
+  besideLink : x .kind ≡ 0 → (l : Link) → Linked ls (x .security) (x .csd) l → ShareDay x l → LinkRefused cs ss acc ls x 11
   -- "An investor link has another CSD as technical issuer and FFFF."
   ownIssuer : x .kind ≡ 1 → x .technical ≡ x .csd → LinkRefused cs ss acc ls x 11
   accountGiven : x .kind ≡ 1 → x .account ≢ noAccount → LinkRefused cs ss acc ls x 11
-  besideIssuer : x .kind ≡ 1 → (l : Link) → IssuerOf cs ls (x .security) (x .csd) l → LinkRefused cs ss acc ls x 11
-  -- "A CSD's first investor link for a security has flag 1, later ones 0 (alternative) ..; an alternative joins two CSDs in T2S."
-  firstFlag : x .kind ≡ 1 → ((l : Link) → Linked ls (x .security) (x .csd) l → l .kind ≢ 1) → x .flag ≢ 1 → LinkRefused cs ss acc ls x 11
-  laterFlag : x .kind ≡ 1 → (l : Link) → Linked ls (x .security) (x .csd) l → l .kind ≡ 1 → x .flag ≢ 0 → LinkRefused cs ss acc ls x 11
+  besideIssuer : x .kind ≡ 1 → (l : Link) → IssuerOf cs ls (x .security) (x .csd) l → ShareDay x l → LinkRefused cs ss acc ls x 11
+  -- "one default"
+  twoDefaults : x .kind ≡ 1 → x .flag ≡ 1 → (l : Link) → DefaultOf cs ls (x .security) (x .csd) l → ShareDay x l → LinkRefused cs ss acc ls x 11
+  -- "an alternative needs a default on each of its days" (02): on this one it has none
+  dayWithoutDefault : x .kind ≡ 1 → x .flag ≡ 0 → (day : ℕ) → ValidOn day x → ((l : Link) → DefaultOf cs ls (x .security) (x .csd) l → ValidOn day l → ⊥) → LinkRefused cs ss acc ls x 11
+  -- "an alternative joins two CSDs in T2S" (01)
   fromExternal : x .kind ≡ 1 → x .flag ≡ 0 → External cs (x .csd) → LinkRefused cs ss acc ls x 11
   toExternal : x .kind ≡ 1 → x .flag ≡ 0 → External cs (x .technical) → LinkRefused cs ss acc ls x 11
 
@@ -221,12 +233,12 @@ pub record Sound (d : Directory) : Type 0 where
 
 -- "positions not 4,096, cash not 256, steps below 16", for the lists that a call is lent
 pub data Misfits (st : Store) : Call → Type 0 where
-  movePositions : {w : Way} {a s q : ℕ} → length (st .positions) ≢ positionCount → Misfits st (move w a s q)
+  movePositions : {w : Way} {a s q day : ℕ} → length (st .positions) ≢ positionCount → Misfits st (move w a s q day)
   payCash : {w : Way} {a m : ℕ} → length (st .cash) ≢ cashCount → Misfits st (pay w a m)
-  settlePositions : {hs : Halves} {lent : List Step} → length (st .positions) ≢ positionCount → Misfits st (settle hs lent)
-  settleCash : {hs : Halves} {lent : List Step} → length (st .cash) ≢ cashCount → Misfits st (settle hs lent)
-  settleSteps : {hs : Halves} {lent : List Step} → length lent < stepLimit → Misfits st (settle hs lent)
-  deriveSteps : {hs : Halves} {lent : List Step} → length lent < stepLimit → Misfits st (derive hs lent)
+  settlePositions : {hs : Halves} {day : ℕ} {lent : List Step} → length (st .positions) ≢ positionCount → Misfits st (settle hs day lent)
+  settleCash : {hs : Halves} {day : ℕ} {lent : List Step} → length (st .cash) ≢ cashCount → Misfits st (settle hs day lent)
+  settleSteps : {hs : Halves} {day : ℕ} {lent : List Step} → length lent < stepLimit → Misfits st (settle hs day lent)
+  deriveSteps : {hs : Halves} {day : ℕ} {lent : List Step} → length lent < stepLimit → Misfits st (derive hs day lent)
 
 -- ---- 06 to 09
 
@@ -374,10 +386,10 @@ pub data SettleRefused (r : Rows) (p c : List ℤ) (hs : Halves) : ℕ → Type 
 -- from 5 on
 abbrev pub CoreRefused : Call → Store → ℕ → Type 0
 CoreRefused (enter x) st = RowRefused (rowsOf (st .directory)) x
-CoreRefused (move w a s q) st = MoveRefused (rowsOf (st .directory)) (st .positions) w a s q
+CoreRefused (move w a s q day) st = MoveRefused (rowsOn day (st .directory)) (st .positions) w a s q
 CoreRefused (pay w a m) st = PayRefused (rowsOf (st .directory)) (st .cash) w a m
-CoreRefused (settle hs lent) st = SettleRefused (rowsOf (st .directory)) (st .positions) (st .cash) hs
-CoreRefused (derive hs lent) st = DeriveRefused (rowsOf (st .directory)) hs
+CoreRefused (settle hs day lent) st = SettleRefused (rowsOn day (st .directory)) (st .positions) (st .cash) hs
+CoreRefused (derive hs day lent) st = DeriveRefused (rowsOn day (st .directory)) hs
 
 -- the number n applies to the call
 pub data Applies (c : Call) (st : Store) : ℕ → Type 0 where

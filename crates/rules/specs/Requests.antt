@@ -1,41 +1,43 @@
 -- What document 02 asks to be shown, a section for each request. Each claim is proved in proofs/.
 use mathlib.Core.Path.{_≡_}
-use mathlib.Core.List.{List, [], _∷_, _++_, map}
+use mathlib.Core.List.{List, [], _∷_, _++_, map, List·Memᴰ}
+use mathlib.Core.Option.{Option, none, some}
 use mathlib.Core.Bool.{true}
 use Prim.Native.Nat.{ℕ, _+_, _-_, _%_}
 use lib.Dec.{eqb}
 use lib.ListN.{length, take}
-use Rattle.rules.specs.Types.{Csd, Account, Pair, Half, SidedHalf, Step, Accepted, Refused}
+use Rattle.rules.specs.Types.{Csd, Account, Pair, Link, Half, SidedHalf, Step, Accepted, Refused}
 use Rattle.rules.specs.Tests.{firstOf}
 use Rattle.rules.specs.Identifiers.{byteAt, sameBic, isinChecks, isinSumLeft}
-use Rattle.rules.specs.Directory.{Rows, noCsd, noAccount}
+use Rattle.rules.specs.Directory.{Rows, linksOf, onDay, rowsOn, noCsd, noAccount}
 use Rattle.rules.specs.Lookups.{ask}
-use Rattle.rules.specs.Entries.{csdRow, pairConditions, soundRows}
+use Rattle.rules.specs.Entries.{csdRow, linkRow, pairConditions, rowConditions, soundRows, sound}
 use Rattle.rules.specs.Chain.{Chain, chained, unchained, step, chain}
-use Rattle.rules.specs.Calls.{ordered, sided, Store, Item, Call, enter, settle, derive, desk, run}
-use Rattle.rules.specs.Refusals.{Delivers, Uses, SharesBoth}
-use Rattle.rules.specs.Demands.{PairEntered}
+use Rattle.rules.specs.Booking.{Way, contra}
+use Rattle.rules.specs.Calls.{Halves, ordered, sided, Store, Outcome, Item, Call, enter, move, settle, derive, desk, run}
+use Rattle.rules.specs.Refusals.{Delivers, Uses, SharesBoth, Linked, ValidOn}
+use Rattle.rules.specs.Demands.{PairEntered, made}
 use Rattle.rules.specs.Stream.{bytes, transcript}
-use Rattle.rules.specs.Examples.{csdAs, sampleStart, sampleDelivering, sampleReceiving, sampleOutput, outputWith}
+use Rattle.rules.specs.Examples.{csdAs, sampleStart, sampleDelivering, sampleReceiving, sampleDay, sampleOutput, outputWith}
 
 -- ---- Ask 1, "The side in the half": on every store, halves and step list, refusals included
 
 -- An outcome is the answer, the store and the step list after the call.
 pub record SideInTheHalf : Type 0 where
   -- "Either order gives the same chain and booking."
-  pub settlesEither : (st : Store) (x y : SidedHalf) (lent : List Step) → desk (settle (sided x y) lent) st ≡ desk (settle (sided y x) lent) st
-  pub derivesEither : (st : Store) (x y : SidedHalf) (lent : List Step) → desk (derive (sided x y) lent) st ≡ desk (derive (sided y x) lent) st
+  pub settlesEither : (st : Store) (x y : SidedHalf) (day : ℕ) (lent : List Step) → desk (settle (sided x y) day lent) st ≡ desk (settle (sided y x) day lent) st
+  pub derivesEither : (st : Store) (x y : SidedHalf) (day : ℕ) (lent : List Step) → desk (derive (sided x y) day lent) st ≡ desk (derive (sided y x) day lent) st
   -- "Commands 0C (settle) and 0D (derive) are 0A and 0B with one byte before each half": where h delivers and g receives, they are 0A and 0B of h and g
-  pub settlesOrdered : (st : Store) (x y : SidedHalf) (lent : List Step) (h g : Half) → Delivers (sided x y) h g
-      → desk (settle (sided x y) lent) st ≡ desk (settle (ordered h g) lent) st
-  pub derivesOrdered : (st : Store) (x y : SidedHalf) (lent : List Step) (h g : Half) → Delivers (sided x y) h g
-      → desk (derive (sided x y) lent) st ≡ desk (derive (ordered h g) lent) st
+  pub settlesOrdered : (st : Store) (x y : SidedHalf) (day : ℕ) (lent : List Step) (h g : Half) → Delivers (sided x y) h g
+      → desk (settle (sided x y) day lent) st ≡ desk (settle (ordered h g) day lent) st
+  pub derivesOrdered : (st : Store) (x y : SidedHalf) (day : ℕ) (lent : List Step) (h g : Half) → Delivers (sided x y) h g
+      → desk (derive (sided x y) day lent) st ≡ desk (derive (ordered h g) day lent) st
 
 -- document 01's sample with the pair's sides written out, by a command byte, in both orders
 abbrev sidedInputs : ℕ → List (List ℕ)
 sidedInputs tag =
-    (sampleStart ++ ((tag ∷ 0 ∷ sampleDelivering) ++ (1 ∷ sampleReceiving)))
-    ∷ (sampleStart ++ ((tag ∷ 1 ∷ sampleReceiving) ++ (0 ∷ sampleDelivering)))
+    (sampleStart ++ ((tag ∷ 0 ∷ sampleDelivering) ++ (1 ∷ sampleReceiving) ++ sampleDay))
+    ∷ (sampleStart ++ ((tag ∷ 1 ∷ sampleReceiving) ++ (0 ∷ sampleDelivering) ++ sampleDay))
     ∷ []
 
 -- 0C prints what 0A prints, and 0D `chain 2` with the same steps
@@ -91,9 +93,9 @@ segregated =
           ∷ accountAs 1 2 ∷ accountAs 2 1 ∷ accountAs 1 2 ∷ accountAs 2 1 ∷ accountAs 2 4 ∷ accountAs 2 0 ∷ accountAs 0 3 ∷ accountAs 0 2 ∷ accountAs 1 1 ∷ accountAs 1 3 ∷ [];
       pairs = pairAs 0 1 4 5 0 ∷ pairAs 0 1 6 7 1 ∷ pairAs 0 1 6 7 2 ∷ pairAs 1 2 8 9 5 ∷ pairAs 1 2 10 11 7 ∷ pairAs 0 3 14 noAccount 0 ∷ pairAs 0 3 14 noAccount 1 ∷ [];
       links =
-          record { security = 0; kind = 0; csd = 2; technical = noCsd; flag = 1; account = 12 }
-          ∷ record { security = 0; kind = 1; csd = 0; technical = 1; flag = 1; account = noAccount }
-          ∷ record { security = 0; kind = 1; csd = 1; technical = 2; flag = 1; account = noAccount }
+          record { security = 0; kind = 0; csd = 2; technical = noCsd; flag = 1; account = 12; first = 0; last = 0xffff }
+          ∷ record { security = 0; kind = 1; csd = 0; technical = 1; flag = 1; account = noAccount; first = 0; last = 0xffff }
+          ∷ record { security = 0; kind = 1; csd = 1; technical = 2; flag = 1; account = noAccount; first = 0; last = 0xffff }
           ∷ [];
     }
 
@@ -148,3 +150,130 @@ pub record SegregatedShown : Type 0 where
 pub record AddedWhileReading : Type 0 where
   -- "Valid and invalid ISINs are the same ones."
   pub same : (i : List ℕ) → eqb ((isinSumLeft (take 11 i) + (byteAt i 11 - 48)) % 10) 0 ≡ isinChecks i
+
+-- ---- Ask 5, "Links have days"
+
+-- "A link gets a first and last day .., both included", "and only links valid on it are seen"
+pub record LinksOfADay : Type 0 where
+  pub seen : (day : ℕ) (ls : List Link) (l : Link) → List·Memᴰ l (linksOf day ls) → List·Memᴰ l ls × ValidOn day l
+  pub all : (day : ℕ) (ls : List Link) (l : Link) → List·Memᴰ l ls → ValidOn day l → List·Memᴰ l (linksOf day ls)
+
+-- two stores that differ in links of other days alone
+pub record AlikeOn (day : ℕ) (st st′ : Store) : Type 0 where
+  pub rows : rowsOn day (st .directory) ≡ rowsOn day (st′ .directory)
+  pub soundBooks : sound (st .directory) ≡ true
+  pub soundBooks′ : sound (st′ .directory) ≡ true
+  pub positions : st .positions ≡ st′ .positions
+  pub cash : st .cash ≡ st′ .cash
+
+-- the same answer, steps, positions and cash
+pub record SameFate (o o′ : Outcome) : Type 0 where
+  pub answer : o .answer ≡ o′ .answer
+  pub steps : o .steps ≡ o′ .steps
+  pub positions : o .store .positions ≡ o′ .store .positions
+  pub cash : o .store .cash ≡ o′ .store .cash
+
+-- "Chains and the fate of a pair are then those of the links of its day."
+pub record FateOfTheDay : Type 0 where
+  pub settles : (st st′ : Store) (hs : Halves) (day : ℕ) (lent : List Step) → AlikeOn day st st′ → SameFate (desk (settle hs day lent) st) (desk (settle hs day lent) st′)
+  pub derives : (st st′ : Store) (hs : Halves) (day : ℕ) (lent : List Step) → AlikeOn day st st′ → SameFate (desk (derive hs day lent) st) (desk (derive hs day lent) st′)
+  pub moves : (st st′ : Store) (w : Way) (a s q day : ℕ) → AlikeOn day st st′ → SameFate (desk (move w a s q day) st) (desk (move w a s q day) st′)
+
+-- a link that the accepted calls of a list have entered, of the CSD c for the security s, valid on the day
+pub record EnteredOn (cs : List Call) (s c day : ℕ) (l : Link) : Type 0 where
+  pub linked : Linked (made (run cs .items) .links) s c l
+  pub valid : ValidOn day l
+
+-- Of the links of a CSD for a security after any list of calls, on any day:
+pub record OnAnyDay : Type 0 where
+  -- one default
+  pub oneDefault : (cs : List Call) (s c day : ℕ) (l k : Link) → EnteredOn cs s c day l → EnteredOn cs s c day k → l .kind ≡ 1 → k .kind ≡ 1 → l .flag ≡ 1 → k .flag ≡ 1 → l ≡ k
+  -- no other link beside an issuer link
+  pub issuerAlone : (cs : List Call) (s c day : ℕ) (l k : Link) → EnteredOn cs s c day l → EnteredOn cs s c day k → l .kind ≡ 0 → l ≡ k
+  -- "an alternative needs a default on each of its days"
+  pub covered : (cs : List Call) (s c day : ℕ) (l : Link) → EnteredOn cs s c day l → l .kind ≡ 1 → l .flag ≡ 0
+      → (k : Link) × EnteredOn cs s c day k × (k .kind ≡ 1) × (k .flag ≡ 1)
+
+-- a link for security 0, written short: an issuer link, a default link, an alternative
+abbrev issuerAs : ℕ → ℕ → ℕ → ℕ → Link
+issuerAs c a from to = record { security = 0; kind = 0; csd = c; technical = noCsd; flag = 1; account = a; first = from; last = to }
+
+abbrev defaultAs : ℕ → ℕ → ℕ → ℕ → Link
+defaultAs c t from to = record { security = 0; kind = 1; csd = c; technical = t; flag = 1; account = noAccount; first = from; last = to }
+
+abbrev alternativeAs : ℕ → ℕ → ℕ → ℕ → Link
+alternativeAs c t from to = record { security = 0; kind = 1; csd = c; technical = t; flag = 0; account = noAccount; first = from; last = to }
+
+-- CSD 2 is the issuer on every day. CSD 0 holds with it on days 10 to 19, with CSD 1 on days 20 to 29, and with CSD 3, which is external, on days 40 and 41;
+-- on days 18 and 19 it has an alternative to CSD 1. CSD 1 holds with the issuer on days 20 to 29.
+unfoldable pub dated : Rows
+dated =
+    record {
+      csds = csdAs 0 (bytes "AAAAXX00XXX") ∷ csdAs 0 (bytes "BBBBXX00XXX") ∷ csdAs 0 (bytes "IIIIXX00XXX") ∷ csdAs 1 (bytes "XXXXXX00XXX") ∷ csdAs 0 (bytes "JJJJXX00XXX") ∷ [];
+      securities = record { isin = bytes "XS0000000009" } ∷ [];
+      accounts =
+          accountAs 0 0 ∷ accountAs 1 0 ∷ accountAs 2 0 ∷ accountAs 0 2 ∷ accountAs 2 1 ∷ accountAs 0 2 ∷ accountAs 1 1 ∷ accountAs 1 2 ∷ accountAs 2 1
+          ∷ accountAs 2 4 ∷ accountAs 0 3 ∷ accountAs 0 4 ∷ [];
+      pairs = pairAs 0 2 3 4 0 ∷ pairAs 0 1 5 6 0 ∷ pairAs 1 2 7 8 6 ∷ pairAs 0 3 10 noAccount 0 ∷ [];
+      links = issuerAs 2 9 0 0xffff ∷ defaultAs 0 2 10 19 ∷ defaultAs 0 1 20 29 ∷ defaultAs 0 3 40 41 ∷ alternativeAs 0 1 18 19 ∷ defaultAs 1 2 20 29 ∷ [];
+    }
+
+-- days, and the chain from participant 0 of CSD 0 to participant 2 of the issuer
+abbrev pub toTheIssuer : List (ℕ × Chain)
+toTheIssuer =
+    (9, unchained 14)
+    ∷ (10, chained (step 0 0 3 ∷ step 2 4 2 ∷ []))
+    ∷ (19, chained (step 0 0 3 ∷ step 2 4 2 ∷ []))
+    ∷ (20, chained (step 0 0 5 ∷ step 1 6 7 ∷ step 2 8 2 ∷ []))
+    ∷ (29, chained (step 0 0 5 ∷ step 1 6 7 ∷ step 2 8 2 ∷ []))
+    ∷ (30, unchained 14)
+    ∷ []
+
+-- and to participant 1 of CSD 1: before day 20, when that has no link, by the alternative alone
+abbrev pub byTheAlternative : List (ℕ × Chain)
+byTheAlternative =
+    (17, unchained 14)
+    ∷ (18, chained (step 0 0 5 ∷ step 1 6 1 ∷ []))
+    ∷ (19, chained (step 0 0 5 ∷ step 1 6 1 ∷ []))
+    ∷ (30, unchained 14)
+    ∷ []
+
+-- days, and the account that a bring-in on participant 0 debits
+abbrev pub broughtInBy : List (ℕ × Option ℕ)
+broughtInBy = (39, none) ∷ (40, some 10) ∷ (41, some 10) ∷ (42, none) ∷ []
+
+-- links, and what refuses them there, 0 for none
+abbrev pub datedRows : List (Link × ℕ)
+datedRows =
+    -- default links: between two others, and with a day of one of them
+    (defaultAs 0 2 30 39, 0)
+    ∷ (defaultAs 0 4 29 39, 11)
+    ∷ (defaultAs 0 4 30 40, 11)
+    ∷ (defaultAs 0 4 0 0, 0)
+    ∷ (defaultAs 0 4 0xffff 0xffff, 0)
+    -- the same technical issuer, with a day in common and without
+    ∷ (defaultAs 0 2 19 39, 9)
+    ∷ (defaultAs 0 2 9 10, 9)
+    ∷ (alternativeAs 0 2 20 29, 0)
+    -- alternatives: over two defaults that follow one another; a day too many, before, behind and between
+    ∷ (alternativeAs 0 4 10 29, 0)
+    ∷ (alternativeAs 0 4 9 29, 11)
+    ∷ (alternativeAs 0 4 10 30, 11)
+    ∷ (alternativeAs 0 4 10 41, 11)
+    -- issuer on some days and investor on others
+    ∷ (issuerAs 0 11 30 39, 0)
+    ∷ (issuerAs 0 11 29 39, 11)
+    ∷ (defaultAs 2 4 5 5, 11)
+    -- a first day after the last: no other link shares a day with it, and 10 is given before
+    ∷ (defaultAs 0 2 15 14, 24)
+    ∷ (alternativeAs 0 4 36 35, 24)
+    ∷ (issuerAs 0 0 36 35, 10)
+    ∷ []
+
+-- the directory is sound, its chains by days, its contra accounts by days, and what refuses links after it
+pub record DaysShown : Type 0 where
+  pub sound : soundRows dated ≡ true
+  pub issuer : map (λ (x : ℕ × Chain). chain (ask (onDay (x .0) dated)) 0 0 2) toTheIssuer ≡ map (λ (x : ℕ × Chain). x .1) toTheIssuer
+  pub alternative : map (λ (x : ℕ × Chain). chain (ask (onDay (x .0) dated)) 0 0 1) byTheAlternative ≡ map (λ (x : ℕ × Chain). x .1) byTheAlternative
+  pub broughtIn : map (λ (x : ℕ × Option ℕ). contra (ask (onDay (x .0) dated)) 0 0 0) broughtInBy ≡ map (λ (x : ℕ × Option ℕ). x .1) broughtInBy
+  pub refusals : map (λ (x : Link × ℕ). firstOf (rowConditions dated (linkRow (x .0)))) datedRows ≡ map (λ (x : Link × ℕ). x .1) datedRows

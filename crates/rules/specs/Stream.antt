@@ -50,7 +50,7 @@ pairAt o =
       served = numberAt o 6 2;
     })
 
--- "05 security 1, kind 1, CSD 1, technical 1, flag 1, account 2"
+-- "05 security 1, kind 1, CSD 1, technical 1, flag 1, account 2" (01); "a first and last day .. stand last in 05, 2 bytes each" (02)
 abbrev pub linkAt : List ℕ → Row
 linkAt o =
     linkRow (record {
@@ -60,11 +60,17 @@ linkAt o =
       technical = numberAt o 3 1;
       flag = numberAt o 4 1;
       account = numberAt o 5 2;
+      first = numberAt o 7 2;
+      last = numberAt o 9 2;
     })
 
--- "06 in, 07 out: account 2, security 1, quantity 8"
+-- bytes of a day: "as their last 2 bytes" (02)
+abbrev pub dayWidth : ℕ
+dayWidth = 2
+
+-- "06 in, 07 out: account 2, security 1, quantity 8" (01), and the day (02)
 abbrev pub moveAt : Way → List ℕ → Call
-moveAt w o = move w (numberAt o 0 2) (numberAt o 2 1) (numberAt o 3 8)
+moveAt w o = move w (numberAt o 0 2) (numberAt o 2 1) (numberAt o 3 8) (numberAt o 11 dayWidth)
 
 -- "08 in, 09 out: account 2, amount 8"
 abbrev pub payAt : Way → List ℕ → Call
@@ -97,6 +103,13 @@ sidedHalfAt o at = record { side = numberAt o at 1; half = halfAt o (at + 1) }
 abbrev pub sidedAt : List ℕ → Halves
 sidedAt o = sided (sidedHalfAt o 0) (sidedHalfAt o (halfWidth + 1))
 
+-- the day of two halves, which stands once behind them, and of two with their sides
+abbrev pub orderedDayAt : List ℕ → ℕ
+orderedDayAt o = numberAt o (halfWidth + halfWidth) dayWidth
+
+abbrev pub sidedDayAt : List ℕ → ℕ
+sidedDayAt o = numberAt o (halfWidth + 1 + (halfWidth + 1)) dayWidth
+
 -- the step list that the program lends
 abbrev pub blankStep : Step
 blankStep = record { csd = 0; debited = 0; credited = 0 }
@@ -109,7 +122,7 @@ programSteps = replicate stepLimit blankStep
 
 -- the operands' widths of the commands 01 to 0E; that of 04 is not read
 abbrev pub widths : List ℕ
-widths = 12 ∷ 12 ∷ 2 ∷ 0 ∷ 7 ∷ 11 ∷ 11 ∷ 10 ∷ 10 ∷ 40 ∷ 40 ∷ 42 ∷ 42 ∷ 8 ∷ []
+widths = 12 ∷ 12 ∷ 2 ∷ 0 ∷ 11 ∷ 13 ∷ 13 ∷ 10 ∷ 10 ∷ 42 ∷ 42 ∷ 44 ∷ 44 ∷ 8 ∷ []
 
 -- "04 becomes an unknown byte" (02)
 abbrev pub formerTag : ℕ
@@ -131,10 +144,10 @@ callOf tag o =
     (cond (eqb tag 7) (moveAt outgoing o)
     (cond (eqb tag 8) (payAt incoming o)
     (cond (eqb tag 9) (payAt outgoing o)
-    (cond (eqb tag 10) (settle (orderedAt o) programSteps)
-    (cond (eqb tag 11) (derive (orderedAt o) programSteps)
-    (cond (eqb tag 12) (settle (sidedAt o) programSteps)
-    (cond (eqb tag 13) (derive (sidedAt o) programSteps)
+    (cond (eqb tag 10) (settle (orderedAt o) (orderedDayAt o) programSteps)
+    (cond (eqb tag 11) (derive (orderedAt o) (orderedDayAt o) programSteps)
+    (cond (eqb tag 12) (settle (sidedAt o) (sidedDayAt o) programSteps)
+    (cond (eqb tag 13) (derive (sidedAt o) (sidedDayAt o) programSteps)
     (enter (pairAt o)))))))))))))
 
 -- What the reader finds at its place: the end, an unknown byte (1), operands cut short (2), or a command with its operands and the

@@ -16,6 +16,11 @@ abbrev pub find : {A : Type 0} → (A → Bool) → List A → Option A
 find p [] = none
 find p (x ∷ l) = cond (p x) (some x) (find p l)
 
+-- the rows that pass the test
+abbrev pub only : {A : Type 0} → (A → Bool) → List A → List A
+only p [] = []
+only p (x ∷ l) = cond (p x) (x ∷ only p l) (only p l)
+
 -- every number below n passes the test
 abbrev pub allBelow : ℕ → (ℕ → Bool) → Bool
 allBelow zero p = true

@@ -70,7 +70,7 @@ pub struct Pair {
     pub served: u16,
 }
 
-// Kind 0 issuer, 1 investor; flag 1 default, 0 alternative.
+// Kind 0 issuer, 1 investor; flag 1 default, 0 alternative. Days are counted from 1 January 2020 as day 0; both are included.
 pub struct Link {
     pub security: u8,
     pub kind: u8,
@@ -78,6 +78,8 @@ pub struct Link {
     pub technical: u8,
     pub flag: u8,
     pub account: u16,
+    pub first: u16,
+    pub last: u16,
 }
 
 // The tables: the first `count` rows of each are in use.

@@ -1,5 +1,5 @@
 -- How long a command's lines are: at most 6 bytes for each byte of the command. A line without steps has at most 16 bytes, and no command is
--- shorter than 3. A step's line has at most 13, and a command of 41 bytes gives at most 16 steps.
+-- shorter than 3. A step's line has at most 13, and a command of 43 bytes gives at most 16 steps.
 use mathlib.Core.Path.{_≡_, refl}
 use mathlib.Core.Bool.{false}
 use mathlib.Core.List.{List, [], List·Memᴰ}
@@ -12,7 +12,7 @@ use Rattle.rules.specs.declared.Step.{Step}
 use Rattle.rules.specs.declared.Answer.{Answer}
 use Rattle.rules.specs.declared.Answer.the-variants.{Accepted, Booked, Chained, Refused}
 use Rattle.rules.specs.Tests.{firstOf}
-use Rattle.rules.specs.Directory.{Rows, rowsOf}
+use Rattle.rules.specs.Directory.{Rows, rowsOn}
 use Rattle.rules.specs.Lookups.{ask}
 use Rattle.rules.specs.Chain.{chained, stepsOf, chainConditions, stepLimit}
 use Rattle.rules.specs.Calls.{Halves, Store, Call, enter, move, pay, settle, derive, outcome, desk, deskConditions, deriveConditions, bookConditions, delivering, receiving, sideUnknown, sameSide, halvesConditions, halvesChain, success, lentSteps, written, writtenFor, countOf, numberOf, isAccepted}
@@ -38,7 +38,7 @@ small-line x h =
     omega (arith, step-long x, short-decimal 1 (x .csd) (omega (arith, h .csd)), short-decimal 2 (x .debited) (omega (arith, h .debited)), short-decimal 2 (x .credited) (omega (arith, h .credited)))
 
 -- the number of any refusal
-low : (a : Answer) → (isAccepted a ≡ false → (3 ≤ numberOf a) × (numberOf a ≤ 23)) → numberOf a < 100
+low : (a : Answer) → (isAccepted a ≡ false → (3 ≤ numberOf a) × (numberOf a ≤ 24)) → numberOf a < 100
 low Accepted h = omega arith
 low (Booked k) h = omega arith
 low (Chained k) h = omega arith
@@ -85,9 +85,9 @@ plain-told c st e = go (firstOf (deskConditions c st))
 
 -- ---- a settlement or derivation
 
-module _ (st : Store) (ready : Ready st) (hs : Halves) (lent : List Step) where
+module _ (st : Store) (ready : Ready st) (hs : Halves) (day : ℕ) (lent : List Step) where
   abbrev rows : Rows
-  rows = rowsOf (st .directory)
+  rows = rowsOn day (st .directory)
 
   abbrev xs : List Step
   xs = stepsOf (halvesChain (ask rows) hs)
@@ -98,21 +98,21 @@ module _ (st : Store) (ready : Ready st) (hs : Halves) (lent : List Step) where
       let parts : Quiet (halvesConditions (ask rows) hs) × Quiet (chainConditions (halvesChain (ask rows) hs)) = quiet-both (halvesConditions (ask rows) hs) (chainConditions (halvesChain (ask rows) hs)) q in
       let is : halvesChain (ask rows) hs ≡ chained xs = quiet-chained (halvesChain (ask rows) hs) (parts .1) in
       let agree : Agreed rows (delivering hs) (receiving hs) = quiet-agree rows (delivering hs) (receiving hs) (sideUnknown hs) (sameSide hs) (parts .0) in
-      let facts : Facts rows = sound-gives (st .directory) (ready .soundBooks) in
+      let facts : Facts rows = sound-gives (st .directory) (ready .soundBooks) day in
       let small = steps-small rows facts (delivering hs .security) (delivering hs .account) (receiving hs .account) xs (agree .deliverer) (agree .receiver) (agree .two) is in
       record {
         few = rw k (chain-few rows (delivering hs .security) (delivering hs .account) (receiving hs .account) xs is);
         small = λ x i. small x (rw (k, take-append-seam xs (drop (length xs) lent)) at i);
       }
 
-  derive-brief : Brief (desk (derive hs lent) st .answer) (desk (derive hs lent) st .steps)
-  derive-brief = refused-or (derive hs lent) st (λ e. pair-brief (Chained (length xs)) refl (desk-quiet (derive hs lent) st e .1 .1))
+  derive-brief : Brief (desk (derive hs day lent) st .answer) (desk (derive hs day lent) st .steps)
+  derive-brief = refused-or (derive hs day lent) st (λ e. pair-brief (Chained (length xs)) refl (desk-quiet (derive hs day lent) st e .1 .1))
 
-  settle-brief : Brief (desk (settle hs lent) st .answer) (desk (settle hs lent) st .steps)
+  settle-brief : Brief (desk (settle hs day lent) st .answer) (desk (settle hs day lent) st .steps)
   settle-brief =
-      refused-or (settle hs lent) st
+      refused-or (settle hs day lent) st
       (λ e. pair-brief (Booked (length xs)) refl
-      (quiet-both (deriveConditions (ask rows) hs) (bookConditions (ask rows) (st .positions) (st .cash) (delivering hs) (receiving hs) xs) (desk-quiet (settle hs lent) st e .1 .1) .0))
+      (quiet-both (deriveConditions (ask rows) hs) (bookConditions (ask rows) (st .positions) (st .cash) (delivering hs) (receiving hs) xs) (desk-quiet (settle hs day lent) st e .1 .1) .0))
 
 -- ---- a command
 
@@ -121,10 +121,10 @@ pub brief : (st : Store) → Ready st → (n tag w : ℕ) (o : List ℕ) → n <
 brief st ready n tag w o h k =
     by-kind (λ (c : Call). length (said n (desk c st .answer) (desk c st .steps)) ≤ 6 * (w + 1)) tag o
     (λ x. plain (enter x) refl)
-    (λ way a s q. plain (move way a s q) refl)
+    (λ way a s q day. plain (move way a s q day) refl)
     (λ way a m. plain (pay way a m) refl)
-    (λ l hs. paired (settle hs programSteps) l (settle-brief st ready hs programSteps))
-    (λ l hs. paired (derive hs programSteps) l (derive-brief st ready hs programSteps))
+    (λ l hs day. paired (settle hs day programSteps) l (settle-brief st ready hs day programSteps))
+    (λ l hs day. paired (derive hs day programSteps) l (derive-brief st ready hs day programSteps))
   where
     lower : (c : Call) → numberOf (desk c st .answer) < 100
     lower c = low (desk c st .answer) (λ e. places-range (numberOf (desk c st .answer)) (demand1 .desks c st .byNumber e))

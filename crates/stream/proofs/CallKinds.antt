@@ -16,7 +16,7 @@ use Rattle.rules.specs.Stream.{widths, widthOf, callOf, programSteps}
 use Rattle.rules.proofs.Basics.{and-both, eqb-is, eqb-true, eqb-not, leb-is}
 use Rattle.rules.proofs.Running.{Ready}
 use Rattle.booking.specs.Moves.{wayOf}
-use Rattle.wire.specs.Operands.{moveIn, paymentIn, halvesIn}
+use Rattle.wire.specs.Operands.{moveIn, paymentIn, halvesIn, dayIn}
 use Rattle.wire.proofs.Decoded.{bring-in-call, take-out-call, pay-in-call, pay-out-call, known-tag}
 use Rattle.stream.specs.Obeyed.{instruction}
 
@@ -45,21 +45,21 @@ next P n tag {x} {y} here other = go (eqb tag n) refl
     go false e = other
 
 -- what holds of each kind of call holds of every command's
-pub by-kind : (P : Call → Type 0) (tag : ℕ) (o : List ℕ) → ((x : Row) → P (enter x)) → ((w : Way) (a s q : ℕ) → P (move w a s q))
-    → ((w : Way) (a m : ℕ) → P (pay w a m)) → (TwoHalves tag → (hs : Halves) → P (settle hs programSteps))
-    → (TwoHalves tag → (hs : Halves) → P (derive hs programSteps)) → P (callOf tag o)
+pub by-kind : (P : Call → Type 0) (tag : ℕ) (o : List ℕ) → ((x : Row) → P (enter x)) → ((w : Way) (a s q day : ℕ) → P (move w a s q day))
+    → ((w : Way) (a m : ℕ) → P (pay w a m)) → (TwoHalves tag → (hs : Halves) (day : ℕ) → P (settle hs day programSteps))
+    → (TwoHalves tag → (hs : Halves) (day : ℕ) → P (derive hs day programSteps)) → P (callOf tag o)
 unfolding callOf
 by-kind P tag o entered moved paid settled derived =
     next P 1 tag (λ e. entered _) (next P 2 tag (λ e. entered _) (next P 3 tag (λ e. entered _) (next P 5 tag (λ e. entered _)
-    (next P 6 tag (λ e. moved _ _ _ _) (next P 7 tag (λ e. moved _ _ _ _) (next P 8 tag (λ e. paid _ _ _) (next P 9 tag (λ e. paid _ _ _)
-    (next P 10 tag (λ e. settled (omega arith, omega arith) _) (next P 11 tag (λ e. derived (omega arith, omega arith) _)
-    (next P 12 tag (λ e. settled (omega arith, omega arith) _) (next P 13 tag (λ e. derived (omega arith, omega arith) _) (entered _))))))))))))
+    (next P 6 tag (λ e. moved _ _ _ _ _) (next P 7 tag (λ e. moved _ _ _ _ _) (next P 8 tag (λ e. paid _ _ _) (next P 9 tag (λ e. paid _ _ _)
+    (next P 10 tag (λ e. settled (omega arith, omega arith) _ _) (next P 11 tag (λ e. derived (omega arith, omega arith) _ _)
+    (next P 12 tag (λ e. settled (omega arith, omega arith) _ _) (next P 13 tag (λ e. derived (omega arith, omega arith) _ _) (entered _))))))))))))
 
 -- a ready store's lists, and the program's step list, fit
 pub fits : (st : Store) → Ready st → (tag : ℕ) (o : List ℕ) → misfit (callOf tag o) st ≡ false
 unfolding misfit
 fits st ready tag o =
-    by-kind (λ (c : Call). misfit c st ≡ false) tag o (λ x. refl) (λ w a s q. rw held) (λ w a m. rw paid) (λ k hs. rw (held, paid)) (λ k hs. refl)
+    by-kind (λ (c : Call). misfit c st ≡ false) tag o (λ x. refl) (λ w a s q day. rw held) (λ w a m. rw paid) (λ k hs day. rw (held, paid)) (λ k hs day. refl)
   where
     held : eqb (length (st .positions)) positionCount ≡ true
     held = eqb-true (length (st .positions)) positionCount (ready .positions)
@@ -71,10 +71,10 @@ fits st ready tag o =
 
 module _ (tag : ℕ) (o : List ℕ) where
   -- 06 and 07
-  pub move-call : 6 ≤ tag → tag < 8 → callOf tag o ≡ move (wayOf (eqb tag 6)) (moveIn o .account) (moveIn o .security) (moveIn o .quantity)
+  pub move-call : 6 ≤ tag → tag < 8 → callOf tag o ≡ move (wayOf (eqb tag 6)) (moveIn o .account) (moveIn o .security) (moveIn o .quantity) (moveIn o .day)
   move-call l h = go (eqb tag 6) refl
     where
-      go : (b : Bool) → eqb tag 6 ≡ b → callOf tag o ≡ move (wayOf b) (moveIn o .account) (moveIn o .security) (moveIn o .quantity)
+      go : (b : Bool) → eqb tag 6 ≡ b → callOf tag o ≡ move (wayOf b) (moveIn o .account) (moveIn o .security) (moveIn o .quantity) (moveIn o .day)
       go true e = bring-in-call tag o (eqb-is tag 6 e)
       go false e = let n : tag ≢ 6 = eqb-not tag 6 e in take-out-call tag o (omega arith)
 
@@ -87,9 +87,9 @@ module _ (tag : ℕ) (o : List ℕ) where
       go false e = let n : tag ≢ 8 = eqb-not tag 8 e in pay-out-call tag o (omega arith)
 
   -- 0A to 0D
-  pub pair-call : TwoHalves tag → callOf tag o ≡ instruction (eqb tag 10 || eqb tag 12) (halvesIn tag o)
+  pub pair-call : TwoHalves tag → callOf tag o ≡ instruction (eqb tag 10 || eqb tag 12) (halvesIn tag o) (dayIn tag o)
   unfolding callOf
-  pair-call h = each-of-two (λ t. callOf t o ≡ instruction (eqb t 10 || eqb t 12) (halvesIn t o)) tag h refl refl refl refl
+  pair-call h = each-of-two (λ t. callOf t o ≡ instruction (eqb t 10 || eqb t 12) (halvesIn t o) (dayIn t o)) tag h refl refl refl refl
 
 -- ---- widths
 
@@ -119,9 +119,9 @@ pub wide : (tag w : ℕ) → widthOf tag ≡ some w → 2 ≤ w
 unfolding isWide eachWide
 wide tag w e = let known = known-tag tag w e in leb-is 2 w (sym (ap isWide e) ∙ wide-at (length widths) tag (known .0) (known .1) refl)
 
--- two halves have 40 or more
-pub pair-wide : (tag w : ℕ) → widthOf tag ≡ some w → TwoHalves tag → 40 ≤ w
-pair-wide tag w e h = each-of-two (λ t. widthOf t ≡ some w → 40 ≤ w) tag h (at 40 (omega arith)) (at 40 (omega arith)) (at 42 (omega arith)) (at 42 (omega arith)) e
+-- two halves and their day have 42 or more
+pub pair-wide : (tag w : ℕ) → widthOf tag ≡ some w → TwoHalves tag → 42 ≤ w
+pair-wide tag w e h = each-of-two (λ t. widthOf t ≡ some w → 42 ≤ w) tag h (at 42 (omega arith)) (at 42 (omega arith)) (at 44 (omega arith)) (at 44 (omega arith)) e
   where
-    at : (x : ℕ) → 40 ≤ x → some x ≡ some w → 40 ≤ w
+    at : (x : ℕ) → 42 ≤ x → some x ≡ some w → 42 ≤ w
     at x m same = let is : x ≡ w = cc in omega arith

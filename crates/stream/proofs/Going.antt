@@ -12,7 +12,7 @@ use lib.Seq.{length-take-le}
 use borrow.Author.Tests.{lt-ltb, le-ltb}
 use Rattle.rules.specs.declared.Account.{Account}
 use Rattle.rules.specs.declared.Security.{Security}
-use Rattle.rules.specs.Directory.{rowsOf, securityLimit, isKind}
+use Rattle.rules.specs.Directory.{rowsOf, rowsOn, securityLimit, isKind}
 use Rattle.rules.specs.Booking.{positionCount, cashCount, participantSum, cashSum}
 use Rattle.rules.specs.Calls.{Store, zeros, emptyStore}
 use Rattle.rules.specs.Stream.{bytes, totalLine, totalLines, cashLine, ending, linesFrom, inputLimit, transcript}
@@ -46,7 +46,7 @@ totals-short acc p s (x ∷ xs) =
 ending-short : (st : Store) → Ready st → length (ending st) ≤ 683
 unfolding ending
 ending-short st h =
-    let F : Facts (rowsOf (st .directory)) = sound-gives (st .directory) (h .soundBooks) in
+    let F : Facts (rowsOn 0 (st .directory)) = sound-gives (st .directory) (h .soundBooks) 0 in
     let few : length (rowsOf (st .directory) .securities) ≤ securityLimit = F .fewSecurities in
     let acc = rowsOf (st .directory) .accounts in
     let xs = rowsOf (st .directory) .securities in

@@ -11,7 +11,7 @@ use lib.ListN.{getD}
 use Rattle.rules.specs.declared.Half.{Half}
 use Rattle.rules.specs.declared.Step.{Step}
 use Rattle.rules.specs.Tests.{_when_}
-use Rattle.rules.specs.Directory.{Rows, rowsOf, securityLimit}
+use Rattle.rules.specs.Directory.{Rows, rowsOn, securityLimit}
 use Rattle.rules.specs.Lookups.{homeOf, ask}
 use Rattle.rules.specs.Chain.{stepsOf, chainConditions}
 use Rattle.rules.specs.Booking.{Way, positionCount, cashCount, beyond, position, balance, heldIn, cashOn, moveStep, moveBy, moveChain, payment, cashBeyond, stepBeyond, unitsBeyond, unitsShort}
@@ -99,22 +99,22 @@ one-beyond p s q x y e i =
     or-none (beyond (heldIn p s (y .debited) -ℤ pos q)) (beyond (heldIn p s (y .credited) +ℤ pos q)) (any-none (stepBeyond p s q) (x ∷ []) e y i)
 
 module _ (st : Store) (b : Bounded st) where
-  abbrev rows : Rows
-  rows = rowsOf (st .directory)
+  abbrev rows : ℕ → Rows
+  rows day = rowsOn day (st .directory)
 
-  move-kept : (w : Way) (a s q : ℕ) → isAccepted (desk (move w a s q) st .answer) ≡ true → Bounded (desk (move w a s q) st .store)
+  move-kept : (w : Way) (a s q day : ℕ) → isAccepted (desk (move w a s q day) st .answer) ≡ true → Bounded (desk (move w a s q day) st .store)
   unfolding moveChain
-  move-kept w a s q e =
-      let k = demand2 .changes (move w a s q) st e in
-      let clear = accepted-free (move w a s q) st e in
-      let all : Quiet (deskConditions (move w a s q) st) = desk-quiet (move w a s q) st clear in
-      let other = contra-is rows (facts-of (move w a s q) st clear) s (homeOf (rows .accounts) a) a (k .1 .0) (k .1 .1) in
-      let x : Step = moveStep w (homeOf (rows .accounts) a) a (k .1 .0) in
-      let one : stepsOf (moveChain (ask rows) w a s) ≡ x ∷ [] = ap (λ o. stepsOf (moveBy w (homeOf (rows .accounts) a) a o)) other in
+  move-kept w a s q day e =
+      let k = demand2 .changes (move w a s q day) st e in
+      let clear = accepted-free (move w a s q day) st e in
+      let all : Quiet (deskConditions (move w a s q day) st) = desk-quiet (move w a s q day) st clear in
+      let other = contra-is (rows day) (facts-of (move w a s q day) st clear day) s (homeOf (rows day .accounts) a) a (k .1 .0) (k .1 .1) in
+      let x : Step = moveStep w (homeOf (rows day .accounts) a) a (k .1 .0) in
+      let one : stepsOf (moveChain (ask (rows day)) w a s) ≡ x ∷ [] = ap (λ o. stepsOf (moveBy w (homeOf (rows day .accounts) a) a o)) other in
       let free : unitsBeyond (st .positions) s q (x ∷ []) ≡ false =
       ap (unitsBeyond (st .positions) s q) (sym one)
-      ∙ quiet-both (chainConditions (moveChain (ask rows) w a s))
-      (20 when unitsShort (ask rows .kind) (st .positions) s q (stepsOf (moveChain (ask rows) w a s)) ∷ 22 when unitsBeyond (st .positions) s q (stepsOf (moveChain (ask rows) w a s)) ∷ [])
+      ∙ quiet-both (chainConditions (moveChain (ask (rows day)) w a s))
+      (20 when unitsShort (ask (rows day) .kind) (st .positions) s q (stepsOf (moveChain (ask (rows day)) w a s)) ∷ 22 when unitsBeyond (st .positions) s q (stepsOf (moveChain (ask (rows day)) w a s)) ∷ [])
       (all .1 .1 .1 .1 .1) .1 .1 .0 in
       record {
         units = units-kept (x ∷ []) s q (st .positions) _ (k .1 .2) (λ y i. one-beyond (st .positions) s q x y free i .0) (λ y i. one-beyond (st .positions) s q x y free i .1) (b .units);
@@ -134,10 +134,10 @@ module _ (st : Store) (b : Bounded st) where
       go c here there free (yes f) = rw f (same-within here free)
       go c here there free (no ne) = same-within (there c ne) (b .cents c)
 
-  settle-kept : (hs : Halves) (lent : List Step) → isAccepted (desk (settle hs lent) st .answer) ≡ true → Bounded (desk (settle hs lent) st .store)
-  settle-kept hs lent e =
-      let answer = ap (λ o. o .answer) (desk-clear (settle hs lent) st (accepted-free (settle hs lent) st e)) in
-      let k = demand2 .books st hs lent .onlyThen _ answer in
+  settle-kept : (hs : Halves) (day : ℕ) (lent : List Step) → isAccepted (desk (settle hs day lent) st .answer) ≡ true → Bounded (desk (settle hs day lent) st .store)
+  settle-kept hs day lent e =
+      let answer = ap (λ o. o .answer) (desk-clear (settle hs day lent) st (accepted-free (settle hs day lent) st e)) in
+      let k = demand2 .books st hs day lent .onlyThen _ answer in
       let h : Half = k .0 in
       let g : Half = k .1 in
       let free = k .3 .allowed in
@@ -149,10 +149,10 @@ module _ (st : Store) (b : Bounded st) where
 
   accepted-kept : (c : Call) → isAccepted (desk c st .answer) ≡ true → Bounded (desk c st .store)
   accepted-kept (enter x) e = let k = demand2 .changes (enter x) st e in record { units = rw (k .2) (b .units); cents = rw (k .3) (b .cents) }
-  accepted-kept (move w a s q) e = move-kept w a s q e
+  accepted-kept (move w a s q day) e = move-kept w a s q day e
   accepted-kept (pay w a m) e = pay-kept w a m e
-  accepted-kept (settle hs lent) e = settle-kept hs lent e
-  accepted-kept (derive hs lent) e = rw (demand2 .changes (derive hs lent) st e) b
+  accepted-kept (settle hs day lent) e = settle-kept hs day lent e
+  accepted-kept (derive hs day lent) e = rw (demand2 .changes (derive hs day lent) st e) b
 
   pub bounded-kept : (c : Call) → Bounded (desk c st .store)
   bounded-kept c = go (isAccepted (desk c st .answer)) refl

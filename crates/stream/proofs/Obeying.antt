@@ -10,13 +10,13 @@ use Rattle.rules.specs.declared.Answer.{Answer}
 use Rattle.rules.specs.declared.Entered.{Entered}
 use Rattle.rules.specs.declared.Step.{Step}
 use Rattle.rules.specs.Tests.{firstOf}
-use Rattle.rules.specs.Directory.{rowsOf}
+use Rattle.rules.specs.Directory.{rowsOf, rowsOn}
 use Rattle.rules.specs.Entries.{Row, rowConditions}
 use Rattle.rules.specs.Lookups.{ask}
 use Rattle.rules.specs.Booking.{Way}
 use Rattle.rules.specs.Calls.{Halves, delivering, receiving, sideUnknown, sameSide, Store, Call, enter, move, pay, settle, derive, Outcome, outcome, success, core, coreConditions, countOf, written}
 use Rattle.rules.specs.Stream.{programSteps}
-use Rattle.index.specs.Asked.{asked}
+use Rattle.index.specs.Asked.{asked, askedOn}
 use Rattle.index.proofs.Answers.{answers}
 use Rattle.entries.specs.Entered.{Kept, Keeps, refusalIn, withRowIn, answered, left, keptBy, enteredIn, enteredBy, enterRow}
 use Rattle.entries.proofs.Keeping.{keeps-entered, answer-is}
@@ -85,18 +85,18 @@ module _ (call : Call) (x : Row) (l b : List ℕ) (a : Answer) (is : call ≡ en
 
 -- ---- bring in, take out, pay in, pay out
 
-pub move-obeys : (call : Call) (w : Way) (a s q : ℕ) (l : List ℕ) (p p′ : List ℤ) (r : Answer) → call ≡ move w a s q
-    → r ≡ moveOutcome (asked l) p w a s q .answer → p′ ≡ moveOutcome (asked l) p w a s q .positions → Moves call l p r p′
-move-obeys call w a s q l p p′ r k e f b c y st h =
-    let known = answers l (st .directory) (h .kept .indexed) in
-    let called = core-moves st w a s q in
-    rw k (plain-obeys (move w a s q) st r (held l b p′ c y) refl (rw called (rw (known, h .positions) at e))
+pub move-obeys : (call : Call) (w : Way) (a s q day : ℕ) (l : List ℕ) (p p′ : List ℤ) (r : Answer) → call ≡ move w a s q day
+    → r ≡ moveOutcome (askedOn l day) p w a s q .answer → p′ ≡ moveOutcome (askedOn l day) p w a s q .positions → Moves call l p r p′
+move-obeys call w a s q day l p p′ r k e f b c y st h =
+    let known = answers .daily l (st .directory) (h .kept .indexed) day in
+    let called = core-moves st w a s q day in
+    rw k (plain-obeys (move w a s q day) st r (held l b p′ c y) refl (rw called (rw (known, h .positions) at e))
     (rw called (record { kept = h .kept; positions = rw (known, h .positions) at f; cash = h .cash; long = h .long })))
 
 pub pay-obeys : (call : Call) (w : Way) (a m : ℕ) (l : List ℕ) (c c′ : List ℤ) (r : Answer) → call ≡ pay w a m
     → r ≡ payOutcome (asked l) c w a m .answer → c′ ≡ payOutcome (asked l) c w a m .cash → Pays call l c r c′
 pay-obeys call w a m l c c′ r k e f b p y st h =
-    let known = answers l (st .directory) (h .kept .indexed) in
+    let known = answers .ever l (st .directory) (h .kept .indexed) in
     let called = core-pays st w a m in
     rw k (plain-obeys (pay w a m) st r (held l b p c′ y) refl (rw called (rw (known, h .cash) at e))
     (rw called (record { kept = h .kept; positions = h .positions; cash = rw (known, h .cash) at f; long = h .long })))
@@ -109,24 +109,24 @@ shown m n xs lent e =
     let k : n ≡ length xs = steps-counted m n ∙ ap length e in
     e ∙ sym (rw k (take-append-seam xs (drop (length xs) lent)))
 
-module _ (hs : Halves) (n l m : List ℕ) (r : Answer) (same : length m ≡ length l) (b : List ℕ) (p c : List ℤ) where
-  pub derive-obeys : Derives l m (asked n) (delivering hs) (receiving hs) (sideUnknown hs) (sameSide hs) r → Does (derive hs programSteps) (held n b p c l) r (held n b p c m)
+module _ (hs : Halves) (day : ℕ) (n l m : List ℕ) (r : Answer) (same : length m ≡ length l) (b : List ℕ) (p c : List ℤ) where
+  pub derive-obeys : Derives l m (askedOn n day) (delivering hs) (receiving hs) (sideUnknown hs) (sameSide hs) r → Does (derive hs day programSteps) (held n b p c l) r (held n b p c m)
   derive-obeys d st i =
-      let x : DerivedIn l m (derived (ask (rowsOf (st .directory))) (delivering hs) (receiving hs) (sideUnknown hs) (sameSide hs)) r =
-      rw (derived-fits l (asked n) (delivering hs) (receiving hs) (sideUnknown hs) (sameSide hs) (i .long), answers n (st .directory) (i .kept .indexed)) at d in
-      rw (core-derives st hs programSteps)
+      let x : DerivedIn l m (derived (ask (rowsOn day (st .directory))) (delivering hs) (receiving hs) (sideUnknown hs) (sameSide hs)) r =
+      rw (derived-fits l (askedOn n day) (delivering hs) (receiving hs) (sideUnknown hs) (sameSide hs) (i .long), answers .daily n (st .directory) (i .kept .indexed) day) at d in
+      rw (core-derives st hs day programSteps)
       (record {
         answer = x .answer;
         steps = rw (x .answer) at (shown m _ _ programSteps (x .steps));
         left = record { kept = i .kept; positions = i .positions; cash = i .cash; long = same ∙ i .long };
       })
 
-  pub settle-obeys : (p′ c′ : List ℤ) → Settles l m (asked n) p c (delivering hs) (receiving hs) (sideUnknown hs) (sameSide hs) r p′ c′ → Does (settle hs programSteps) (held n b p c l) r (held n b p′ c′ m)
+  pub settle-obeys : (p′ c′ : List ℤ) → Settles l m (askedOn n day) p c (delivering hs) (receiving hs) (sideUnknown hs) (sameSide hs) r p′ c′ → Does (settle hs day programSteps) (held n b p c l) r (held n b p′ c′ m)
   settle-obeys p′ c′ s st i =
-      let k = ask (rowsOf (st .directory)) in
+      let k = ask (rowsOn day (st .directory)) in
       let x : SettledIn l m (derivedInto l k (delivering hs) (receiving hs) (sideUnknown hs) (sameSide hs) .steps) (settleOutcome k (st .positions) (st .cash) (delivering hs) (receiving hs) (sideUnknown hs) (sameSide hs)) r p′ c′ =
-      rw (settle-fits l (asked n) p c (delivering hs) (receiving hs) (sideUnknown hs) (sameSide hs) (i .long), answers n (st .directory) (i .kept .indexed), i .positions, i .cash) at s in
-      rw (core-settles st hs programSteps)
+      rw (settle-fits l (askedOn n day) p c (delivering hs) (receiving hs) (sideUnknown hs) (sameSide hs) (i .long), answers .daily n (st .directory) (i .kept .indexed) day, i .positions, i .cash) at s in
+      rw (core-settles st hs day programSteps)
       (record {
         answer = x .answer;
         steps = rw (x .answer) at (shown m _ _ programSteps (x .steps));

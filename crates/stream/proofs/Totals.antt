@@ -81,7 +81,7 @@ module _ (k : Kept) (st : Store) (h : Keeps k (st .directory)) (t : Totalled st)
   -- a total that is not refused is its sum
   sum-is : (s : ℕ) → s < length (rows .securities) → unitsIn (securityTotal (asked (k .numbers)) (st .positions) s) ≡ participantSum (isKind (rows .accounts)) (st .positions) s
   unfolding unitsIn
-  sum-is s l = rw (answers (k .numbers) (st .directory) (h .indexed), t .units s l)
+  sum-is s l = rw (answers .ever (k .numbers) (st .directory) (h .indexed), t .units s l)
 
   line-is : (s : ℕ) (d : Security) → s < length (rows .securities) → totalIn k (st .positions) s ≡ line (rows .accounts) (st .positions) s (getD (rows .securities) s d)
   unfolding totalLine
@@ -96,7 +96,7 @@ module _ (k : Kept) (st : Store) (h : Keeps k (st .directory)) (t : Totalled st)
 
   all-are : securitiesIn (k .numbers) ≡ length (rows .securities)
   unfolding securitiesIn read numberAt
-  all-are = rw (h .indexed .at securityCount tt) (min-eq-left (sound-gives (st .directory) (h .indexed .soundBooks) .fewSecurities))
+  all-are = rw (h .indexed .at securityCount tt) (min-eq-left (sound-gives (st .directory) (h .indexed .soundBooks) 0 .fewSecurities))
 
 -- what stands at the end
 pub ending-is : (h : Held) (st : Store) → Holds h st → Totalled st → endingIn (h .kept) (h .positions) (h .cash) ≡ ending st
@@ -120,7 +120,7 @@ pub totalled : (st : Store) → Ready st → Bounded st → Totalled st
 unfolding securityTotal cashTotal isRow
 totalled st h b =
     let rows = rowsOf (st .directory) in
-    let few : length (rows .securities) ≤ securityLimit = sound-gives (st .directory) (h .soundBooks) .fewSecurities in
+    let few : length (rows .securities) ≤ securityLimit = sound-gives (st .directory) (h .soundBooks) 0 .fewSecurities in
     record {
       units = λ s l.
           rw (

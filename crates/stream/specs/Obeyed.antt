@@ -58,10 +58,10 @@ Moves c l before a after = (b : List ℕ) (m : List ℤ) (x : List ℕ) → Does
 abbrev pub Pays : Call → List ℕ → List ℤ → Answer → List ℤ → Type 0
 Pays c l before a after = (b : List ℕ) (p : List ℤ) (x : List ℕ) → Does c (held l b p before x) a (held l b p after x)
 
--- two halves settled, or their chain derived, by the program
-abbrev pub instruction : Bool → Halves → Call
-instruction true hs = settle hs programSteps
-instruction false hs = derive hs programSteps
+-- two halves settled, or their chain derived, on a day by the program
+abbrev pub instruction : Bool → Halves → ℕ → Call
+instruction true hs day = settle hs day programSteps
+instruction false hs day = derive hs day programSteps
 
 -- the operands are as many as the command has
 abbrev pub Whole : ℕ → List ℕ → Type 0

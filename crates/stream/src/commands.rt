@@ -18,6 +18,7 @@ use rules::Half;
 use wire::commands::ENTER_PAIR;
 use wire::operands::decode_account;
 use wire::operands::decode_csd;
+use wire::operands::decode_day;
 use wire::operands::decode_delivering;
 use wire::operands::decode_first;
 use wire::operands::decode_link;
@@ -27,13 +28,14 @@ use wire::operands::decode_payment;
 use wire::operands::decode_receiving;
 use wire::operands::decode_second;
 use wire::operands::decode_security;
+use wire::operands::decode_sided_day;
 ghost use mathlib.Core.Path.{_≡_};
 ghost use mathlib.Core.List.{List};
 ghost use Prim.Native.Nat.{ℕ, _<_, _≤_};
 ghost use Rattle.rules.specs.Calls.{Halves};
 ghost use Rattle.rules.specs.Stream.{callOf};
 ghost use Rattle.chain.specs.Halves.{inOrder, Handed};
-ghost use Rattle.wire.specs.Operands.{halvesIn};
+ghost use Rattle.wire.specs.Operands.{halvesIn, dayIn};
 ghost use Rattle.stream.specs.Obeyed.{keptIn, held, Does, Enters, Moves, Pays, Whole, instruction};
 
 // 01 to 03 and 05, where the operands are whole.
@@ -67,6 +69,7 @@ fn move_units(index: &[u16; INDEX], positions: &mut [i64], tag: u8, operands: &[
         asked.account,
         asked.security,
         asked.quantity,
+        asked.day,
     )
 }
 
@@ -96,7 +99,17 @@ fn read_pair(tag: u8, operands: &[u8]) -> InOrder
     in_order(first, second)
 }
 
-// Two halves settled, or their chain derived. What is asked of the sides comes last.
+// The day behind them.
+fn read_day(tag: u8, operands: &[u8]) -> u16
+    ensures { λ r. ⌜ r ≡ dayIn tag (now (operands .entry)) ⌝ }
+{
+    if tag < 12 {
+        return decode_day(operands);
+    }
+    decode_sided_day(operands)
+}
+
+// Two halves settled, or their chain derived, on a day. What is asked of the sides comes before it.
 fn instruct_pair(
     index: &[u16; INDEX],
     positions: &mut [i64],
@@ -107,8 +120,9 @@ fn instruct_pair(
     receiving: Half,
     unknown: bool,
     same: bool,
+    day: u16,
 ) -> Answer
-    ensures { λ r. ⌜ ((hs : Halves) → Handed hs delivering receiving unknown same → (b : List ℕ) → Does (instruction settles hs)
+    ensures { λ r. ⌜ ((hs : Halves) → Handed hs delivering receiving unknown same → (b : List ℕ) → Does (instruction settles hs day)
         (held (now (index .entry)) b (now (positions .entry)) (now (cash .entry)) (now (steps .entry))) r
         (held (now (index .entry)) b (now (positions .exit)) (now (cash .exit)) (now (steps .exit)))) ⌝ }
 {
@@ -122,9 +136,10 @@ fn instruct_pair(
             receiving,
             unknown,
             same,
+            day,
         );
     }
-    derive(index, steps, delivering, receiving, unknown, same)
+    derive(index, steps, delivering, receiving, unknown, same, day)
 }
 
 // 0A and 0B, 0C and 0D.
@@ -142,6 +157,7 @@ fn instruct(
         (held (now (index .entry)) b (now (positions .exit)) (now (cash .exit)) (now (steps .exit)))) ⌝ }
 {
     let pair = read_pair(tag, operands);
+    let day = read_day(tag, operands);
     let settles = (tag == 10) | (tag == 12);
     instruct_pair(
         index,
@@ -153,6 +169,7 @@ fn instruct(
         pair.receiving,
         pair.unknown,
         pair.same,
+        day,
     )
 }
 

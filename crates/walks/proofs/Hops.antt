@@ -8,8 +8,8 @@ use Rattle.rules.specs.declared.Hop.the-variants.{Ends, On}
 use Rattle.rules.specs.declared.WalkEnd.the-variants.{Inside, NoLink}
 use Rattle.rules.specs.Lookups.{Lookups}
 use Rattle.rules.specs.Walks.{follow, defaultHop}
-use Rattle.index.specs.declared.lookups.Leading.{Leading}
-use Rattle.index.specs.declared.lookups.Leading.the-variants.{Issuer, To, Nowhere}
+use Rattle.index.specs.declared.links.Leading.{Leading}
+use Rattle.index.specs.declared.links.Leading.the-variants.{Issuer, To, Nowhere}
 use Rattle.index.specs.Found.{leadingOf}
 
 -- the default hop of a CSD in T2S, by where its links lead

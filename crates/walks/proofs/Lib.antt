@@ -1,3 +1,4 @@
+pub mod Days
 pub mod Hops
 pub mod Paths
 pub mod Meeting

@@ -16,7 +16,7 @@ use rules::WalkEnd;
 ghost use mathlib.Core.Path.{_≡_};
 ghost use Rattle.rules.specs.Chain.{judged, joinedBy, route};
 ghost use Rattle.rules.specs.Chain.Route.{sides};
-ghost use Rattle.index.specs.Asked.{asked};
+ghost use Rattle.index.specs.Asked.{askedOn};
 ghost use Rattle.walks.specs.Sides.{named};
 ghost use Rattle.walks.specs.Routes.{CommonEnd, Meets, routeOf};
 
@@ -102,15 +102,15 @@ fn shared_csds(delivering: Walk, receiving: Walk) -> usize
     }
 }
 
-// The four cases of document 01, from the delivering CSD to the receiving one.
-pub fn route_of(index: &[u16; INDEX], security: u8, from: u8, to: u8) -> RouteFound
-    ensures { λ r. ⌜ routeOf r ≡ route (asked (now (index .entry))) security from to ⌝ }
+// The four cases of document 01 on the day, from the delivering CSD to the receiving one.
+pub fn route_of(index: &[u16; INDEX], security: u8, from: u8, to: u8, day: u16) -> RouteFound
+    ensures { λ r. ⌜ routeOf r ≡ route (askedOn (now (index .entry)) day) security from to ⌝ }
 {
     if from == to {
         return joined(Join::Meeting, alone(from), alone(to));
     }
-    let delivering = default_walk(index, security, from);
-    let receiving = default_walk(index, security, to);
+    let delivering = default_walk(index, security, from, day);
+    let receiving = default_walk(index, security, to, day);
     let shared = shared_csds(delivering, receiving);
     if 0 < shared {
         return joined(
@@ -119,12 +119,12 @@ pub fn route_of(index: &[u16; INDEX], security: u8, from: u8, to: u8) -> RouteFo
             without_last(receiving.side, shared - 1),
         );
     }
-    let towards = directed_walk(index, security, to, from);
+    let towards = directed_walk(index, security, to, from, day);
     let end = towards.end;
     if has_reached(to, end) {
         return joined(Join::Meeting, towards.side, alone(to));
     }
-    let back = directed_walk(index, security, from, to);
+    let back = directed_walk(index, security, from, to, day);
     let end = back.end;
     if has_reached(from, end) {
         return joined(Join::Meeting, alone(from), back.side);

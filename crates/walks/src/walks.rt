@@ -1,9 +1,9 @@
 // Walks from CSD to CSD: one walk, which calls itself with the CSDs still allowed, led by a default hop or a directed hop.
 use crate::sides::Side;
-use index::lookups::Leading;
-use index::lookups::has_link_to;
+use index::links::Leading;
+use index::links::has_link_to;
+use index::links::leading_at;
 use index::lookups::is_external;
-use index::lookups::leading_at;
 use index::places::INDEX;
 use rules::Hop;
 use rules::SIDE;
@@ -12,7 +12,7 @@ ghost use mathlib.Core.Path.{_≡_};
 ghost use Prim.Native.Nat.{_≤_, _<_};
 ghost use lib.ListN.{length};
 ghost use Rattle.rules.specs.Walks.{sideLimit, defaultHop, directedHop, walk, defaultWalk, directedWalk};
-ghost use Rattle.index.specs.Asked.{asked};
+ghost use Rattle.index.specs.Asked.{askedOn};
 ghost use Rattle.walks.specs.Walks.{hopOf, walkOf, wayOf, endAt, WalksOn};
 
 // The ways in which a walk ends are four.
@@ -24,42 +24,42 @@ pub struct Walk {
     pub side: Side,
 }
 
-fn default_hop(index: &[u16; INDEX], security: u8, csd: u8) -> Hop
-    ensures { λ r. ⌜ r ≡ defaultHop (asked (now (index .entry))) security csd ⌝ }
+fn default_hop(index: &[u16; INDEX], security: u8, csd: u8, day: u16) -> Hop
+    ensures { λ r. ⌜ r ≡ defaultHop (askedOn (now (index .entry)) day) security csd ⌝ }
 {
     if is_external(index, csd) {
         return Hop::Ends(WalkEnd::Outside(csd));
     }
-    match leading_at(index, security, csd) {
+    match leading_at(index, security, csd, day) {
         Leading::Issuer => Hop::Ends(WalkEnd::Inside(csd)),
         Leading::To(technical) => Hop::On(technical),
         Leading::Nowhere => Hop::Ends(WalkEnd::NoLink),
     }
 }
 
-fn directed_hop(index: &[u16; INDEX], security: u8, target: u8, csd: u8) -> Hop
-    ensures { λ r. ⌜ r ≡ directedHop (asked (now (index .entry))) security target csd ⌝ }
+fn directed_hop(index: &[u16; INDEX], security: u8, target: u8, csd: u8, day: u16) -> Hop
+    ensures { λ r. ⌜ r ≡ directedHop (askedOn (now (index .entry)) day) security target csd ⌝ }
 {
     if csd == target {
         return Hop::Ends(WalkEnd::Inside(csd));
     }
-    if has_link_to(index, security, csd, target) {
+    if has_link_to(index, security, csd, target, day) {
         if is_external(index, csd) {
             return Hop::Ends(WalkEnd::Outside(csd));
         }
         return Hop::On(target);
     }
-    default_hop(index, security, csd)
+    default_hop(index, security, csd, day)
 }
 
-// What a walk does at a CSD.
-fn hop_at(index: &[u16; INDEX], security: u8, directed: bool, target: u8, csd: u8) -> Hop
-    ensures { λ r. ⌜ r ≡ hopOf (asked (now (index .entry))) security directed target csd ⌝ }
+// What a walk does at a CSD on the day.
+fn hop_at(index: &[u16; INDEX], security: u8, directed: bool, target: u8, csd: u8, day: u16) -> Hop
+    ensures { λ r. ⌜ r ≡ hopOf (askedOn (now (index .entry)) day) security directed target csd ⌝ }
 {
     if directed {
-        return directed_hop(index, security, target, csd);
+        return directed_hop(index, security, target, csd, day);
     }
-    default_hop(index, security, csd)
+    default_hop(index, security, csd, day)
 }
 
 // The way in which a walk ended, as a number.
@@ -85,17 +85,18 @@ fn walk_from(
     csd: u8,
     left: usize,
     csds: &mut [u8; SIDE],
+    day: u16,
 ) -> usize
     requires { ⌜ (left ≤ sideLimit) × (length (now csds) ≡ sideLimit) ⌝ }
-    ensures { λ r. ⌜ WalksOn left (now (csds .entry)) (walk (hopOf (asked (now (index .entry))) security directed target) left csd) r (now (csds .exit)) ⌝ }
+    ensures { λ r. ⌜ WalksOn left (now (csds .entry)) (walk (hopOf (askedOn (now (index .entry)) day) security directed target) left csd) r (now (csds .exit)) ⌝ }
 {
     if left == 0 {
         return WAYS * SIDE + way_of(WalkEnd::TooLong);
     }
     csds[SIDE - left] = csd;
-    match hop_at(index, security, directed, target, csd) {
+    match hop_at(index, security, directed, target, csd, day) {
         Hop::Ends(end) => WAYS * (SIDE - left + 1) + way_of(end),
-        Hop::On(next) => walk_from(index, security, directed, target, next, left - 1, csds),
+        Hop::On(next) => walk_from(index, security, directed, target, next, left - 1, csds, day),
     }
 }
 
@@ -115,12 +116,19 @@ fn end_at(way: usize, csd: u8) -> WalkEnd
     WalkEnd::TooLong
 }
 
-// The whole walk from a CSD.
-fn whole_walk(index: &[u16; INDEX], security: u8, directed: bool, target: u8, csd: u8) -> Walk
-    ensures { λ r. ⌜ walkOf r ≡ walk (hopOf (asked (now (index .entry))) security directed target) sideLimit csd ⌝ }
+// The whole walk from a CSD on the day.
+fn whole_walk(
+    index: &[u16; INDEX],
+    security: u8,
+    directed: bool,
+    target: u8,
+    csd: u8,
+    day: u16,
+) -> Walk
+    ensures { λ r. ⌜ walkOf r ≡ walk (hopOf (askedOn (now (index .entry)) day) security directed target) sideLimit csd ⌝ }
 {
     let mut csds = [0u8; SIDE];
-    let told = walk_from(index, security, directed, target, csd, SIDE, &mut csds);
+    let told = walk_from(index, security, directed, target, csd, SIDE, &mut csds, day);
     let count = told / WAYS;
     let last = csds[count - 1];
     Walk {
@@ -129,14 +137,14 @@ fn whole_walk(index: &[u16; INDEX], security: u8, directed: bool, target: u8, cs
     }
 }
 
-pub fn default_walk(index: &[u16; INDEX], security: u8, csd: u8) -> Walk
-    ensures { λ r. ⌜ walkOf r ≡ defaultWalk (asked (now (index .entry))) security csd ⌝ }
+pub fn default_walk(index: &[u16; INDEX], security: u8, csd: u8, day: u16) -> Walk
+    ensures { λ r. ⌜ walkOf r ≡ defaultWalk (askedOn (now (index .entry)) day) security csd ⌝ }
 {
-    whole_walk(index, security, false, csd, csd)
+    whole_walk(index, security, false, csd, csd, day)
 }
 
-pub fn directed_walk(index: &[u16; INDEX], security: u8, target: u8, csd: u8) -> Walk
-    ensures { λ r. ⌜ walkOf r ≡ directedWalk (asked (now (index .entry))) security target csd ⌝ }
+pub fn directed_walk(index: &[u16; INDEX], security: u8, target: u8, csd: u8, day: u16) -> Walk
+    ensures { λ r. ⌜ walkOf r ≡ directedWalk (askedOn (now (index .entry)) day) security target csd ⌝ }
 {
-    whole_walk(index, security, true, target, csd)
+    whole_walk(index, security, true, target, csd, day)
 }

@@ -41,11 +41,11 @@ module _ (tag : ℕ) (o : List ℕ) where
   unfolding callOf
   link-call e = rw e
 
-  pub bring-in-call : tag ≡ 6 → callOf tag o ≡ move incoming (moveIn o .account) (moveIn o .security) (moveIn o .quantity)
+  pub bring-in-call : tag ≡ 6 → callOf tag o ≡ move incoming (moveIn o .account) (moveIn o .security) (moveIn o .quantity) (moveIn o .day)
   unfolding callOf
   bring-in-call e = rw e
 
-  pub take-out-call : tag ≡ 7 → callOf tag o ≡ move outgoing (moveIn o .account) (moveIn o .security) (moveIn o .quantity)
+  pub take-out-call : tag ≡ 7 → callOf tag o ≡ move outgoing (moveIn o .account) (moveIn o .security) (moveIn o .quantity) (moveIn o .day)
   unfolding callOf
   take-out-call e = rw e
 

@@ -20,7 +20,7 @@ pub enum Next {
 
 const COMMANDS: usize = 14;
 
-const WIDTHS: [usize; COMMANDS] = [12, 12, 2, 0, 7, 11, 11, 10, 10, 40, 40, 42, 42, 8];
+const WIDTHS: [usize; COMMANDS] = [12, 12, 2, 0, 11, 13, 13, 10, 10, 42, 42, 44, 44, 8];
 
 // "Command 0E enters the longer row", a pair; "04 becomes an unknown byte", whose width is not read.
 pub const ENTER_PAIR: u8 = 14;

@@ -13,7 +13,7 @@ ghost use mathlib.Core.Path.{_≡_};
 ghost use Prim.Native.Nat.{_+_, _^_, _≤_, _<_};
 ghost use lib.ListN.{length, getD};
 ghost use Rattle.rules.specs.Entries.{accountRow, pairRow, linkRow};
-ghost use Rattle.rules.specs.Stream.{numberAt, accountAt, pairAt, linkAt, halfWidth, halfAt, sidedHalfAt};
+ghost use Rattle.rules.specs.Stream.{numberAt, accountAt, pairAt, linkAt, halfWidth, halfAt, sidedHalfAt, orderedDayAt, sidedDayAt};
 ghost use Rattle.wire.specs.Operands.{paddedAt, csdIn, securityIn, moveIn, paymentIn};
 
 // The operands of 06 and 07.
@@ -21,6 +21,7 @@ pub struct Move {
     pub account: u16,
     pub security: u8,
     pub quantity: u64,
+    pub day: u16,
 }
 
 // The operands of 08 and 09.
@@ -29,8 +30,10 @@ pub struct Payment {
     pub amount: u64,
 }
 
-// Bytes of a half.
+// Bytes of a half, and of one with its side.
 const HALF: usize = 20;
+
+const SIDED_HALF: usize = HALF + 1;
 
 fn byte_at(operands: &[u8], at: usize) -> u8
     ensures { λ r. ⌜ r ≡ getD (now (operands .entry)) at 0 ⌝ }
@@ -165,7 +168,7 @@ pub fn decode_pair(operands: &[u8]) -> Pair
     }
 }
 
-// "05 security 1, kind 1, CSD 1, technical 1, flag 1, account 2"
+// "05 security 1, kind 1, CSD 1, technical 1, flag 1, account 2"; of the first and last day, "Both stand last in 05, 2 bytes each."
 pub fn decode_link(operands: &[u8]) -> Link
     ensures { λ r. ⌜ linkRow r ≡ linkAt (now (operands .entry)) ⌝ }
 {
@@ -175,6 +178,8 @@ pub fn decode_link(operands: &[u8]) -> Link
     let technical = one_byte(operands, 3);
     let flag = one_byte(operands, 4);
     let account = two_bytes(operands, 5);
+    let first = two_bytes(operands, 7);
+    let last = two_bytes(operands, 9);
     Link {
         security,
         kind,
@@ -182,20 +187,24 @@ pub fn decode_link(operands: &[u8]) -> Link
         technical,
         flag,
         account,
+        first,
+        last,
     }
 }
 
-// "06 in, 07 out: account 2, security 1, quantity 8"
+// "06 in, 07 out: account 2, security 1, quantity 8"; they "carry a day as their last 2 bytes"
 pub fn decode_move(operands: &[u8]) -> Move
     ensures { λ r. ⌜ r ≡ moveIn (now (operands .entry)) ⌝ }
 {
     let account = two_bytes(operands, 0);
     let security = one_byte(operands, 2);
     let quantity = eight_bytes(operands, 3);
+    let day = two_bytes(operands, 11);
     Move {
         account,
         security,
         quantity,
+        day,
     }
 }
 
@@ -250,6 +259,13 @@ pub fn decode_receiving(operands: &[u8]) -> Half
     half_at(operands, HALF)
 }
 
+// The day behind the two halves: "Derive, settle, .. carry a day as their last 2 bytes"
+pub fn decode_day(operands: &[u8]) -> u16
+    ensures { λ r. ⌜ r ≡ orderedDayAt (now (operands .entry)) ⌝ }
+{
+    two_bytes(operands, HALF + HALF)
+}
+
 // "0C (settle) and 0D (derive) are 0A and 0B with one byte before each half"
 pub fn decode_first(operands: &[u8]) -> SidedHalf
     ensures { λ r. ⌜ r ≡ sidedHalfAt (now (operands .entry)) 0 ⌝ }
@@ -260,5 +276,12 @@ pub fn decode_first(operands: &[u8]) -> SidedHalf
 pub fn decode_second(operands: &[u8]) -> SidedHalf
     ensures { λ r. ⌜ r ≡ sidedHalfAt (now (operands .entry)) (halfWidth + 1) ⌝ }
 {
-    sided_half_at(operands, HALF + 1)
+    sided_half_at(operands, SIDED_HALF)
+}
+
+// The day behind the two halves with their sides.
+pub fn decode_sided_day(operands: &[u8]) -> u16
+    ensures { λ r. ⌜ r ≡ sidedDayAt (now (operands .entry)) ⌝ }
+{
+    two_bytes(operands, SIDED_HALF + SIDED_HALF)
 }

@@ -1,5 +1,6 @@
 // Document 01's worked example by the desk's functions alone: entered, booked, and taken back by the opposite pair.
 use desk::empty;
+use examples::DAY;
 use examples::csd;
 use examples::link;
 use examples::pair;
@@ -97,7 +98,7 @@ fn settle(
 ) {
     let delivering = half(from, (0 < to) as u8, quantity, amount);
     let receiving = half(to, (0 < from) as u8, quantity, amount);
-    let reply = desk::settle_by_value(directory, positions, cash, delivering, receiving);
+    let reply = desk::settle_by_value(directory, positions, cash, delivering, receiving, DAY);
     let answer = reply.answer;
     put_answer(answer);
     put_steps(reply.steps);
@@ -105,7 +106,7 @@ fn settle(
 }
 
 fn book(directory: Directory, positions: &mut [i64; POSITIONS], cash: &mut [i64; ACCOUNTS]) {
-    put_answer(desk::bring_in(directory, positions, 4, 0, 100));
+    put_answer(desk::bring_in(directory, positions, 4, 0, 100, DAY));
     put_store(directory, positions, cash);
     settle(directory, positions, cash, 4, 0, 40, 0);
     put_answer(desk::pay_in(directory, cash, 4, 500));
@@ -114,7 +115,7 @@ fn book(directory: Directory, positions: &mut [i64; POSITIONS], cash: &mut [i64;
     let isin = *b"XS0000000008";
     let same = told(desk::enter_security(directory, Security { isin }));
     put_store(same, positions, cash);
-    put_answer(desk::take_out(same, positions, 4, 0, 100));
+    put_answer(desk::take_out(same, positions, 4, 0, 100, DAY));
     put_answer(desk::pay_out(same, cash, 0, 500));
     put_store(same, positions, cash);
 }

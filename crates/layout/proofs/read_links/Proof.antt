@@ -4,13 +4,13 @@ use mathlib.Core.Path.{_≡_, refl, ap, _∙_}
 use Prim.Native.Nat.{_+_, _*_, _≤_, _-_}
 use native.Mathlib.Omega.{arith}
 use lib.ListN.{length, take, length-set}
-use Rattle.layout.specs.Layout.{linksStart, rowsIn, linkIn, linkOf, linksIn}
+use Rattle.layout.specs.Layout.{linkWidth, linksStart, rowsIn, linkIn, linkOf, linksIn}
 use Rattle.layout.proofs.Rows.{from, row-more, rows-done}
 use Rattle.layout.proofs.read_links.Statement.{statement}
 use Rattle.layout.proofs.read_links.Tie as tie
 
 abbrev Inv-loop : tie.InvT-loop
-Inv-loop count bytes rows₀ i₀ rows i = (i ≤ 128) × (length rows ≡ 128) × (take i rows ≡ rowsIn linkIn linksStart 7 bytes i)
+Inv-loop count bytes rows₀ i₀ rows i = (i ≤ 128) × (length rows ≡ 128) × (take i rows ≡ rowsIn linkIn linksStart linkWidth bytes i)
 
 abbrev μ-loop : tie.MeasureT-loop
 μ-loop count bytes rows₀ i₀ rows i = 128 - i
@@ -57,15 +57,15 @@ loop-again c =
     let l = c .before .before .before .before .loop in
     let bytes = c .before .before .before .before .before .before .args .bytes .now in
     let w = c .before .before .within in
-    let part = from bytes (linksStart + l .i * 7) (w .result) (w .ensures) in
-    (omega arith, simp length-set (l .inv .1), row-more linkIn linksStart 7 bytes (l .rows) (l .i) (c .decode-link .result) (omega arith) (l .inv .2) (ap linkOf (c .decode-link .ensures) ∙ ap linkIn part))
+    let part = from bytes (linksStart + l .i * linkWidth) (w .result) (w .ensures) in
+    (omega arith, simp length-set (l .inv .1), row-more linkIn linksStart linkWidth bytes (l .rows) (l .i) (c .decode-link .result) (omega arith) (l .inv .2) (ap linkOf (c .decode-link .ensures) ∙ ap linkIn part))
 
 returns : tie.Need-returns Inv-loop μ-loop
 unfolding linksIn
 returns c =
     let l = c .before .loop in
     let a = c .before .before .before .args in
-    let e : l .rows ≡ rowsIn linkIn linksStart 7 (a .bytes .now) 128 = rows-done linkIn linksStart 7 (a .bytes .now) (l .rows) (l .i) 128 (l .inv .2) (l .inv .1) (omega arith) in
+    let e : l .rows ≡ rowsIn linkIn linksStart linkWidth (a .bytes .now) 128 = rows-done linkIn linksStart linkWidth (a .bytes .now) (l .rows) (l .i) 128 (l .inv .2) (l .inv .1) (omega arith) in
     rw e
 
 pub read-links-spec : {M : Type 1} → statement M

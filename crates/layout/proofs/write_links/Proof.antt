@@ -1,49 +1,53 @@
--- So far the first bytes of the rows stand in their place; the rest is as before.
+-- So far the first rows stand in their place; the rest is as before.
 use borrow.Author.Needs.{needs}
 use mathlib.Core.Path.{_≡_, refl}
-use Prim.Native.Nat.{_+_, _≤_, _-_}
+use Prim.Native.Nat.{_+_, _*_, _≤_, _-_}
 use native.Mathlib.Omega.{arith}
 use lib.ListN.{length}
+use Rattle.rules.specs.Directory.{linkLimit}
 use Rattle.rules.specs.Entries.{blankLink}
-use Rattle.layout.specs.Layout.{linksStart, rowsLength, bytesIn, linkBytes, Put}
-use Rattle.layout.proofs.Bytes.{put-none, put-more, put-done}
+use Rattle.layout.specs.Layout.{linkWidth, linksLength, linksStart, rowsLength, bytesIn, linkBytes, Put}
+use Rattle.layout.proofs.Bytes.{put-none, put-row, put-done}
 use Rattle.layout.proofs.write_links.Statement.{statement}
 use Rattle.layout.proofs.write_links.Tie as tie
 
 abbrev Inv-loop : tie.InvT-loop
-Inv-loop bytes₀ table j₀ bytes j = (j ≤ 896) × (length bytes₀ ≡ rowsLength) × Put linksStart (linksStart + j) (bytesIn linkBytes blankLink 7 (table .rows) j) bytes₀ bytes
+Inv-loop bytes₀ table i₀ bytes i =
+    (i ≤ linkLimit) × (length bytes₀ ≡ rowsLength) × Put linksStart (linksStart + i * linkWidth) (bytesIn linkBytes blankLink linkWidth (table .rows) (i * linkWidth)) bytes₀ bytes
 
 abbrev μ-loop : tie.MeasureT-loop
-μ-loop bytes₀ table j₀ bytes j = 896 - j
+μ-loop bytes₀ table i₀ bytes i = linkLimit - i
 
 loop-holds : tie.Need-loop-holds Inv-loop μ-loop
-loop-holds c = (omega arith, omega arith, put-none linkBytes blankLink 7 (c .before .args .t2 .rows) linksStart (c .before .args .bytes .now) linksStart refl)
+loop-holds c = (omega arith, omega arith, put-none linkBytes blankLink linkWidth (c .before .args .t2 .rows) linksStart (c .before .args .bytes .now) linksStart refl)
 
-mul-link-byte : tie.Need-mul-link-byte Inv-loop μ-loop
-mul-link-byte c = omega arith
+mul-put-link : tie.Need-mul-put-link Inv-loop μ-loop
+mul-put-link c = omega arith
 
-element-copy-out-link-byte : tie.Need-element-copy-out-link-byte Inv-loop μ-loop
-element-copy-out-link-byte c = omega arith
+add-put-link : tie.Need-add-put-link Inv-loop μ-loop
+add-put-link c = omega arith
 
-link-byte-requires : tie.Need-link-byte-requires Inv-loop μ-loop
-link-byte-requires c κs = search needs
+mul-put-link-2 : tie.Need-mul-put-link-2 Inv-loop μ-loop
+mul-put-link-2 c = omega arith
 
-add-bytes : tie.Need-add-bytes Inv-loop μ-loop
-add-bytes c = omega arith
+element-copy-out-put-link : tie.Need-element-copy-out-put-link Inv-loop μ-loop
+element-copy-out-put-link c = omega arith
 
-slice-write-bytes : tie.Need-slice-write-bytes Inv-loop μ-loop
-slice-write-bytes c = omega arith
+put-link-requires : tie.Need-put-link-requires Inv-loop μ-loop
+put-link-requires c κs = search needs
 
-add-j : tie.Need-add-j Inv-loop μ-loop
-add-j c = omega arith
+add-i : tie.Need-add-i Inv-loop μ-loop
+add-i c = omega arith
 
 loop-less : tie.Need-loop-less Inv-loop μ-loop
 loop-less c = omega arith
 
 loop-again : tie.Need-loop-again Inv-loop μ-loop
 loop-again c =
-    let l = c .before .before .before .loop in
-    (omega arith, l .inv .1, put-more linkBytes blankLink 7 (c .before .before .before .before .before .args .t2 .rows) linksStart (c .before .before .before .before .before .args .bytes .now) (linksStart + l .j) (linksStart + (l .j + 1)) (l .j) (c .link-byte .result) (l .bytes) (omega arith) (omega arith) (l .inv .2) (c .link-byte .ensures))
+    let l = c .before .before .before .before .before .before .loop in
+    let a = c .before .before .before .before .before .before .before .before .args in
+    let p = c .before .before .put-link in
+    (omega arith, l .inv .1, put-row linkBytes blankLink linkWidth (a .t2 .rows) linksStart (a .bytes .now) (linksStart + l .i * linkWidth) (linksStart + (l .i + 1) * linkWidth) (l .i) (l .bytes) (p .last .0) refl (omega arith) (l .inv .2) (p .ensures))
 
 same-length : tie.Need-same-length Inv-loop μ-loop
 same-length c = omega arith
@@ -51,7 +55,7 @@ same-length c = omega arith
 returns : tie.Need-returns Inv-loop μ-loop
 returns c =
     let l = c .before .loop in
-    put-done linkBytes blankLink 7 (c .before .before .before .args .t2 .rows) linksStart (c .before .before .before .args .bytes .now) (linksStart + l .j) rowsLength (l .j) 896 (l .bytes) (omega arith) (omega arith) (l .inv .2)
+    put-done linkBytes blankLink linkWidth (c .before .before .before .args .t2 .rows) linksStart (c .before .before .before .args .bytes .now) (linksStart + l .i * linkWidth) rowsLength (l .i * linkWidth) linksLength (l .bytes) (omega arith) (omega arith) (l .inv .2)
 
 pub write-links-spec : {M : Type 1} → statement M
 write-links-spec =
@@ -60,12 +64,12 @@ write-links-spec =
     Inv-loop
     μ-loop
     loop-holds
-    mul-link-byte
-    element-copy-out-link-byte
-    link-byte-requires
-    add-bytes
-    slice-write-bytes
-    add-j
+    mul-put-link
+    add-put-link
+    mul-put-link-2
+    element-copy-out-put-link
+    put-link-requires
+    add-i
     loop-less
     loop-again
     same-length

@@ -1,10 +1,11 @@
 -- The issuance account of an issuer, else what the default link gives.
 use borrow.Author.Needs.{needs}
 use mathlib.Core.Path.{sym, ap, _∙_}
-use Rattle.index.specs.Asked.{asked}
+use Rattle.index.specs.Asked.{askedOn}
 use Rattle.booking.specs.declared.moves.Contra.the-variants.{At}
 use Rattle.booking.specs.Moves.{contraFound}
 use Rattle.booking.proofs.Contras.{contra-issued, contra-led, contra-lacking}
+use Rattle.booking.proofs.Days.{inter-csd-on}
 use Rattle.booking.proofs.moves.contra_of.Statement.{statement}
 use Rattle.booking.proofs.moves.contra_of.Tie as tie
 
@@ -31,22 +32,22 @@ unfolding contraFound
 returns c =
     let led = c .before .before .before in
     let a = led .before .args in
-    rw (contra-issued (asked (a .index .now)) (a .security) (a .csd) (a .account) (sym (led .leading-at .ensures) ∙ c .before .enum-told .given .1))
+    rw (contra-issued (askedOn (a .index .now) (a .day)) (a .security) (a .csd) (a .account) (sym (led .leading-at .ensures) ∙ c .before .enum-told .given .1))
     (ap At (c .issuance-of .ensures))
 
 returns-2 : tie.Need-returns-2
 returns-2 c =
     let led = c .before .before .before .before in
     let a = led .before .args in
-    rw (contra-led (asked (a .index .now)) (a .security) (a .csd) (a .account) _ (sym (led .leading-at .ensures) ∙ c .before .before .technical .given .1))
-    (c .inter-csd .ensures)
+    rw (contra-led (askedOn (a .index .now) (a .day)) (a .security) (a .csd) (a .account) _ (sym (led .leading-at .ensures) ∙ c .before .before .technical .given .1))
+    (c .inter-csd .ensures ∙ ap contraFound (inter-csd-on (a .index .now) (a .day) (a .csd) (a .account) _))
 
 returns-3 : tie.Need-returns-3
 unfolding contraFound
 returns-3 c =
     let led = c .before .before in
     let a = led .before .args in
-    rw (contra-lacking (asked (a .index .now)) (a .security) (a .csd) (a .account) (sym (led .leading-at .ensures) ∙ c .enum-told2 .given .1))
+    rw (contra-lacking (askedOn (a .index .now) (a .day)) (a .security) (a .csd) (a .account) (sym (led .leading-at .ensures) ∙ c .enum-told2 .given .1))
 
 pub contra-of-spec : {M : Type 1} → statement M
 contra-of-spec =

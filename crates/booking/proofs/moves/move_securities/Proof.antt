@@ -1,10 +1,12 @@
 -- Each number in turn decides as the definition has it; where none does, the step judged is the step booked.
 use borrow.Author.Needs.{needs}
 use mathlib.Core.Path.{sym, _∙_}
-use Rattle.index.specs.Asked.{asked}
+use Rattle.index.specs.Asked.{askedOn}
+use Rattle.chain.proofs.Days.{home-on}
 use Rattle.booking.specs.Moves.{wayOf}
 use Rattle.booking.proofs.Moved.{by-operands, by-contra, by-step, by-none}
 use Rattle.booking.proofs.Contras.{contra-at, contra-missing}
+use Rattle.booking.proofs.Days.{operands-on, step-on}
 use Rattle.booking.proofs.Refused.{operands-open}
 use Rattle.booking.proofs.moves.move_securities.Statement.{statement}
 use Rattle.booking.proofs.moves.move_securities.Tie as tie
@@ -16,8 +18,8 @@ returns : tie.Need-returns
 returns c =
     let first = c .before in
     let a = first .before .args in
-    by-operands (asked (a .index .now)) (a .positions .now) (wayOf (a .incoming)) (a .account) (a .security) (a .quantity)
-    (first .move-refusal .result) (first .move-refusal .ensures) (c .if1 .taken)
+    by-operands (askedOn (a .index .now) (a .day)) (a .positions .now) (wayOf (a .incoming)) (a .account) (a .security) (a .quantity)
+    (first .move-refusal .result) (first .move-refusal .ensures ∙ operands-on (a .index .now) (a .day) (a .account) (a .security) (a .quantity)) (c .if1 .taken)
 
 home-of-requires : tie.Need-home-of-requires
 home-of-requires c κs = search needs
@@ -38,9 +40,9 @@ returns-2 c =
     let e = searched .before .before in
     let first = e .before in
     let a = first .before .args in
-    by-contra (asked (a .index .now)) (a .positions .now) (wayOf (a .incoming)) (a .account) (a .security) (a .quantity)
-    (first .move-refusal .result) (first .move-refusal .ensures) (e .if1 .left)
-    (home .result) (home .ensures) (contra-missing _ (sym (searched .contra-of .ensures) ∙ c .enum-told .given .1))
+    by-contra (askedOn (a .index .now) (a .day)) (a .positions .now) (wayOf (a .incoming)) (a .account) (a .security) (a .quantity)
+    (first .move-refusal .result) (first .move-refusal .ensures ∙ operands-on (a .index .now) (a .day) (a .account) (a .security) (a .quantity)) (e .if1 .left)
+    (home .result) (home .ensures ∙ home-on (a .index .now) (a .day) (a .account)) (contra-missing _ (sym (searched .contra-of .ensures) ∙ c .enum-told .given .1))
 
 move-step-requires : tie.Need-move-step-requires
 move-step-requires c κs = search needs
@@ -50,7 +52,7 @@ book-step-requires c κs =
     let e = c .before .before .before .before .before .before .before in
     let first = e .before in
     let a = first .before .args in
-    operands-open (asked (a .index .now)) (a .account) (a .security) (a .quantity) (sym (first .move-refusal .ensures) ∙ e .if1 .left)
+    operands-open (askedOn (a .index .now) (a .day)) (a .account) (a .security) (a .quantity) (sym (first .move-refusal .ensures ∙ operands-on (a .index .now) (a .day) (a .account) (a .security) (a .quantity)) ∙ e .if1 .left)
 
 same-length : tie.Need-same-length
 same-length c = search needs
@@ -66,10 +68,10 @@ returns-3 c =
     let first = e .before in
     let a = first .before .args in
     let book = booking .book-step in
-    by-step (asked (a .index .now)) (a .positions .now) (wayOf (a .incoming)) (a .account) (a .security) (a .quantity)
-    (first .move-refusal .result) (first .move-refusal .ensures) (e .if1 .left)
-    (home .result) (home .ensures) _ (contra-at _ _ (sym (searched .contra-of .ensures) ∙ found .other .given .1))
-    (stepped .move-step .result) (stepped .move-step .ensures) (book .result) (book .ensures .0) _ (book .ensures .1) (c .if2 .taken)
+    by-step (askedOn (a .index .now) (a .day)) (a .positions .now) (wayOf (a .incoming)) (a .account) (a .security) (a .quantity)
+    (first .move-refusal .result) (first .move-refusal .ensures ∙ operands-on (a .index .now) (a .day) (a .account) (a .security) (a .quantity)) (e .if1 .left)
+    (home .result) (home .ensures ∙ home-on (a .index .now) (a .day) (a .account)) _ (contra-at _ _ (sym (searched .contra-of .ensures) ∙ found .other .given .1))
+    (stepped .move-step .result) (stepped .move-step .ensures) (book .result) (book .ensures .0 ∙ step-on (a .index .now) (a .day) (a .positions .now) (a .security) (a .quantity) (stepped .move-step .result)) _ (book .ensures .1) (c .if2 .taken)
 
 same-length-2 : tie.Need-same-length-2
 same-length-2 c = search needs
@@ -85,10 +87,10 @@ returns-4 c =
     let first = e .before in
     let a = first .before .args in
     let book = booking .book-step in
-    by-none (asked (a .index .now)) (a .positions .now) (wayOf (a .incoming)) (a .account) (a .security) (a .quantity)
-    (first .move-refusal .result) (first .move-refusal .ensures) (e .if1 .left)
-    (home .result) (home .ensures) _ (contra-at _ _ (sym (searched .contra-of .ensures) ∙ found .other .given .1))
-    (stepped .move-step .result) (stepped .move-step .ensures) (book .result) (book .ensures .0) _ (book .ensures .1) (c .if2 .left)
+    by-none (askedOn (a .index .now) (a .day)) (a .positions .now) (wayOf (a .incoming)) (a .account) (a .security) (a .quantity)
+    (first .move-refusal .result) (first .move-refusal .ensures ∙ operands-on (a .index .now) (a .day) (a .account) (a .security) (a .quantity)) (e .if1 .left)
+    (home .result) (home .ensures ∙ home-on (a .index .now) (a .day) (a .account)) _ (contra-at _ _ (sym (searched .contra-of .ensures) ∙ found .other .given .1))
+    (stepped .move-step .result) (stepped .move-step .ensures) (book .result) (book .ensures .0 ∙ step-on (a .index .now) (a .day) (a .positions .now) (a .security) (a .quantity) (stepped .move-step .result)) _ (book .ensures .1) (c .if2 .left)
 
 pub move-securities-spec : {M : Type 1} → statement M
 move-securities-spec =

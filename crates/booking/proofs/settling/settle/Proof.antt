@@ -1,9 +1,11 @@
 -- Each number in turn decides as the definition has it; where none does, the steps and the payment judged are those booked.
 use borrow.Author.Needs.{needs}
 use mathlib.Core.Path.{sym, _∙_}
-use Rattle.index.specs.Asked.{asked}
+use Rattle.index.specs.Asked.{askedOn}
 use Rattle.chain.specs.StepList.{stepsIn}
+use Rattle.chain.proofs.Days.{halves-on}
 use Rattle.chain.proofs.Ranges.{halves-ranged}
+use Rattle.booking.proofs.Days.{book-on}
 use Rattle.booking.proofs.Settled.{by-length, by-halves, by-chain, by-booking, done, booking-open}
 use Rattle.booking.proofs.settling.settle.Statement.{statement}
 use Rattle.booking.proofs.settling.settle.Tie as tie
@@ -11,7 +13,7 @@ use Rattle.booking.proofs.settling.settle.Tie as tie
 returns : tie.Need-returns
 returns c =
     let a = c .before .before .args in
-    by-length (asked (a .index .now)) (a .positions .now) (a .cash .now) (a .delivering) (a .receiving) (a .unknown) (a .same) (a .steps .now) (c .if1 .taken)
+    by-length (askedOn (a .index .now) (a .day)) (a .positions .now) (a .cash .now) (a .delivering) (a .receiving) (a .unknown) (a .same) (a .steps .now) (c .if1 .taken)
 
 halves-refusal-requires : tie.Need-halves-refusal-requires
 halves-refusal-requires c κs = search needs
@@ -20,8 +22,8 @@ returns-2 : tie.Need-returns-2
 returns-2 c =
     let halves = c .before in
     let a = halves .before .before .before .args in
-    by-halves (asked (a .index .now)) (a .positions .now) (a .cash .now) (a .delivering) (a .receiving) (a .unknown) (a .same) (a .steps .now) (halves .before .if1 .left)
-    (halves .halves-refusal .result) (halves .halves-refusal .ensures) (c .if2 .taken)
+    by-halves (askedOn (a .index .now) (a .day)) (a .positions .now) (a .cash .now) (a .delivering) (a .receiving) (a .unknown) (a .same) (a .steps .now) (halves .before .if1 .left)
+    (halves .halves-refusal .result) (halves .halves-refusal .ensures ∙ halves-on (a .index .now) (a .day) (a .delivering) (a .receiving) (a .unknown) (a .same)) (c .if2 .taken)
 
 chain-of-requires : tie.Need-chain-of-requires
 chain-of-requires c κs = search needs
@@ -35,8 +37,8 @@ returns-3 c =
     let found = chain .chain-of in
     let halves = chain .before .before .before in
     let a = halves .before .before .before .args in
-    by-chain (asked (a .index .now)) (a .positions .now) (a .cash .now) (a .delivering) (a .receiving) (a .unknown) (a .same) (a .steps .now) (halves .before .if1 .left)
-    (sym (halves .halves-refusal .ensures) ∙ chain .before .before .if2 .left) (found .last .1 .1 .1 .1 .0) (found .result) (found .ensures) (c .if3 .taken)
+    by-chain (askedOn (a .index .now) (a .day)) (a .positions .now) (a .cash .now) (a .delivering) (a .receiving) (a .unknown) (a .same) (a .steps .now) (halves .before .if1 .left)
+    (sym (halves .halves-refusal .ensures ∙ halves-on (a .index .now) (a .day) (a .delivering) (a .receiving) (a .unknown) (a .same)) ∙ chain .before .before .if2 .left) (found .last .1 .1 .1 .1 .0) (found .result) (found .ensures) (c .if3 .taken)
 
 judge-booking-requires : tie.Need-judge-booking-requires
 judge-booking-requires c κs = search needs
@@ -58,9 +60,9 @@ returns-4 c =
     let found = chain .chain-of in
     let halves = chain .before .before .before in
     let a = halves .before .before .before .args in
-    by-booking (asked (a .index .now)) (a .positions .now) (a .cash .now) (a .delivering) (a .receiving) (a .unknown) (a .same) (a .steps .now) (halves .before .if1 .left)
-    (sym (halves .halves-refusal .ensures) ∙ chain .before .before .if2 .left) (found .last .1 .1 .1 .1 .0) (found .result) (found .ensures) (clear .if3 .left)
-    (judged .judge-booking .result) (judged .judge-booking .ensures) (c .if4 .taken)
+    by-booking (askedOn (a .index .now) (a .day)) (a .positions .now) (a .cash .now) (a .delivering) (a .receiving) (a .unknown) (a .same) (a .steps .now) (halves .before .if1 .left)
+    (sym (halves .halves-refusal .ensures ∙ halves-on (a .index .now) (a .day) (a .delivering) (a .receiving) (a .unknown) (a .same)) ∙ chain .before .before .if2 .left) (found .last .1 .1 .1 .1 .0) (found .result) (found .ensures) (clear .if3 .left)
+    (judged .judge-booking .result) (judged .judge-booking .ensures ∙ book-on (a .index .now) (a .day) (a .positions .now) (a .cash .now) (a .delivering) (a .receiving) (stepsIn (found .last .1 .1 .1 .1 .0) (found .result .count))) (c .if4 .taken)
 
 book-steps-requires : tie.Need-book-steps-requires
 book-steps-requires c κs =
@@ -70,10 +72,10 @@ book-steps-requires c κs =
     let found = chain .chain-of in
     let halves = chain .before .before .before in
     let a = halves .before .before .before .args in
-    let k = asked (a .index .now) in
-    let ranged = halves-ranged k (a .delivering) (a .receiving) (a .unknown) (a .same) (sym (halves .halves-refusal .ensures) ∙ chain .before .before .if2 .left) in
+    let k = askedOn (a .index .now) (a .day) in
+    let ranged = halves-ranged k (a .delivering) (a .receiving) (a .unknown) (a .same) (sym (halves .halves-refusal .ensures ∙ halves-on (a .index .now) (a .day) (a .delivering) (a .receiving) (a .unknown) (a .same)) ∙ chain .before .before .if2 .left) in
     let passes = booking-open k (a .positions .now) (a .cash .now) (a .delivering) (a .receiving) (a .unknown) (a .same) (stepsIn (found .last .1 .1 .1 .1 .0) (found .result .count))
-    (sym (judged .judge-booking .ensures) ∙ passed .if4 .left) in
+    (sym (judged .judge-booking .ensures ∙ book-on (a .index .now) (a .day) (a .positions .now) (a .cash .now) (a .delivering) (a .receiving) (stepsIn (found .last .1 .1 .1 .1 .0) (found .result .count))) ∙ passed .if4 .left) in
     (ranged .0, found .ensures .few, passes .0)
 
 pay-requires : tie.Need-pay-requires
@@ -84,10 +86,10 @@ pay-requires c κs =
     let found = chain .chain-of in
     let halves = chain .before .before .before in
     let a = halves .before .before .before .args in
-    let k = asked (a .index .now) in
-    let ranged = halves-ranged k (a .delivering) (a .receiving) (a .unknown) (a .same) (sym (halves .halves-refusal .ensures) ∙ chain .before .before .if2 .left) in
+    let k = askedOn (a .index .now) (a .day) in
+    let ranged = halves-ranged k (a .delivering) (a .receiving) (a .unknown) (a .same) (sym (halves .halves-refusal .ensures ∙ halves-on (a .index .now) (a .day) (a .delivering) (a .receiving) (a .unknown) (a .same)) ∙ chain .before .before .if2 .left) in
     let passes = booking-open k (a .positions .now) (a .cash .now) (a .delivering) (a .receiving) (a .unknown) (a .same) (stepsIn (found .last .1 .1 .1 .1 .0) (found .result .count))
-    (sym (judged .judge-booking .ensures) ∙ passed .if4 .left) in
+    (sym (judged .judge-booking .ensures ∙ book-on (a .index .now) (a .day) (a .positions .now) (a .cash .now) (a .delivering) (a .receiving) (stepsIn (found .last .1 .1 .1 .1 .0) (found .result .count))) ∙ passed .if4 .left) in
     (ranged .1, passes .1)
 
 same-length-5 : tie.Need-same-length-5
@@ -110,9 +112,9 @@ returns-5 c =
     let found = chain .chain-of in
     let halves = chain .before .before .before in
     let a = halves .before .before .before .args in
-    done (asked (a .index .now)) (a .positions .now) (a .cash .now) (a .delivering) (a .receiving) (a .unknown) (a .same) (a .steps .now) (halves .before .if1 .left)
-    (sym (halves .halves-refusal .ensures) ∙ chain .before .before .if2 .left) (found .last .1 .1 .1 .1 .0) (found .result) (found .ensures) (clear .if3 .left)
-    (judged .judge-booking .result) (judged .judge-booking .ensures) (passed .if4 .left)
+    done (askedOn (a .index .now) (a .day)) (a .positions .now) (a .cash .now) (a .delivering) (a .receiving) (a .unknown) (a .same) (a .steps .now) (halves .before .if1 .left)
+    (sym (halves .halves-refusal .ensures ∙ halves-on (a .index .now) (a .day) (a .delivering) (a .receiving) (a .unknown) (a .same)) ∙ chain .before .before .if2 .left) (found .last .1 .1 .1 .1 .0) (found .result) (found .ensures) (clear .if3 .left)
+    (judged .judge-booking .result) (judged .judge-booking .ensures ∙ book-on (a .index .now) (a .day) (a .positions .now) (a .cash .now) (a .delivering) (a .receiving) (stepsIn (found .last .1 .1 .1 .1 .0) (found .result .count))) (passed .if4 .left)
     (booked .book-steps .last .0) (paid .pay .last .0) (booked .book-steps .ensures) (paid .pay .ensures)
 
 pub settle-spec : {M : Type 1} → statement M

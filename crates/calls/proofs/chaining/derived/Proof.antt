@@ -17,7 +17,7 @@ returns : tie.Need-returns
 returns c =
     let e = c .before in
     let a = e .before .before .before .before .args in
-    λ hs handed. c .refused .ensures ∙ derivation-refused (a .directory) (a .lent) hs _ _ (e .before .early-refusal .ensures) (e .if1 .taken)
+    λ hs handed. c .refused .ensures ∙ derivation-refused (a .directory) (a .lent) hs (a .day) _ _ (e .before .early-refusal .ensures) (e .if1 .taken)
 
 slice-aggregate-derive : tie.Need-slice-aggregate-derive
 slice-aggregate-derive c = search needs
@@ -34,7 +34,7 @@ replied-requires c κs =
     let e = m .before .before .before in
     let s = e .before .before .before .before in
     let a = s .args in
-    derivation-few (a .directory) (a .lent) (s .pre .0) _ _ (e .before .early-refusal .ensures) (e .if1 .left) _ _ (handed-derives (s .pre .1) _ _ _ _ (m .derive .ensures))
+    derivation-few (a .directory) (a .lent) (s .pre .0) (a .day) _ _ (e .before .early-refusal .ensures) (e .if1 .left) _ _ (handed-derives (s .pre .1) _ _ _ _ (m .derive .ensures))
 
 returns-2 : tie.Need-returns-2
 returns-2 c =
@@ -43,7 +43,7 @@ returns-2 c =
     let a = e .before .before .before .before .args in
     λ hs handed.
     c .replied .ensures
-    ∙ derivation-passed (a .directory) (a .lent) hs _ _ (e .before .early-refusal .ensures) (e .if1 .left) _ _ (handed-derives handed _ _ _ _ (m .derive .ensures))
+    ∙ derivation-passed (a .directory) (a .lent) hs (a .day) _ _ (e .before .early-refusal .ensures) (e .if1 .left) _ _ (handed-derives handed _ _ _ _ (m .derive .ensures))
 
 pub derived-spec : {M : Type 1} → statement M
 derived-spec =

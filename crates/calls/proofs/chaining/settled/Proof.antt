@@ -19,7 +19,7 @@ returns c =
     let e = c .before in
     let a = e .before .before .before .before .args in
     λ hs handed.
-    let s = settlement-refused (a .directory) (now (a .positions)) (now (a .cash)) (a .lent) hs _ _ (e .before .early-refusal .ensures) (e .if1 .taken) in
+    let s = settlement-refused (a .directory) (now (a .positions)) (now (a .cash)) (a .lent) hs (a .day) _ _ (e .before .early-refusal .ensures) (e .if1 .taken) in
     (c .refused .ensures ∙ s .0, s .1, s .2)
 
 slice-aggregate-settle : tie.Need-slice-aggregate-settle
@@ -37,7 +37,7 @@ replied-requires c κs =
     let e = m .before .before .before .before .before in
     let s = e .before .before .before .before in
     let a = s .args in
-    settlement-few (a .directory) (now (a .positions)) (now (a .cash)) (a .lent) (s .pre .0) _ _ (e .before .early-refusal .ensures) (e .if1 .left) _ _ _ _ (handed-settles (s .pre .1) _ _ _ _ _ _ _ _ (m .settle .ensures))
+    settlement-few (a .directory) (now (a .positions)) (now (a .cash)) (a .lent) (s .pre .0) (a .day) _ _ (e .before .early-refusal .ensures) (e .if1 .left) _ _ _ _ (handed-settles (s .pre .1) _ _ _ _ _ _ _ _ (m .settle .ensures))
 
 same-length : tie.Need-same-length
 same-length c = search needs
@@ -51,7 +51,7 @@ returns-2 c =
     let e = m .before .before .before .before .before in
     let a = e .before .before .before .before .args in
     λ hs handed.
-    let s = settlement-passed (a .directory) (now (a .positions)) (now (a .cash)) (a .lent) hs _ _ (e .before .early-refusal .ensures) (e .if1 .left) _ _ _ _ (handed-settles handed _ _ _ _ _ _ _ _ (m .settle .ensures)) in
+    let s = settlement-passed (a .directory) (now (a .positions)) (now (a .cash)) (a .lent) hs (a .day) _ _ (e .before .early-refusal .ensures) (e .if1 .left) _ _ _ _ (handed-settles handed _ _ _ _ _ _ _ _ (m .settle .ensures)) in
     (c .replied .ensures ∙ s .0, s .1, s .2)
 
 pub settled-spec : {M : Type 1} → statement M

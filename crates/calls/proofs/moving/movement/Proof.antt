@@ -13,7 +13,7 @@ early-refusal-requires c κs = nothing-kept
 returns : tie.Need-returns
 returns c =
     let a = c .before .before .before .before .args in
-    movement-refused (a .directory) (now (a .positions)) (wayOf (a .incoming)) (a .account) (a .security) (a .quantity) _ _ (c .before .early-refusal .ensures) (c .if1 .taken)
+    movement-refused (a .directory) (now (a .positions)) (wayOf (a .incoming)) (a .account) (a .security) (a .quantity) (a .day) _ _ (c .before .early-refusal .ensures) (c .if1 .taken)
 
 move-securities-requires : tie.Need-move-securities-requires
 move-securities-requires c κs = search needs
@@ -26,7 +26,7 @@ returns-2 c =
     let l = c .before .before .before .before in
     let a = l .before .before .before .before .args in
     let m = c .before .move-securities .ensures in
-    movement-passed (a .directory) (now (a .positions)) (wayOf (a .incoming)) (a .account) (a .security) (a .quantity) _ _ (l .before .early-refusal .ensures) (l .if1 .left) _ _ (m .0) (m .1)
+    movement-passed (a .directory) (now (a .positions)) (wayOf (a .incoming)) (a .account) (a .security) (a .quantity) (a .day) _ _ (l .before .early-refusal .ensures) (l .if1 .left) _ _ (m .0) (m .1)
 
 pub movement-spec : {M : Type 1} → statement M
 movement-spec =

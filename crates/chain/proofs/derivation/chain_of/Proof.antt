@@ -2,7 +2,8 @@
 use native.Mathlib.Omega.{arith}
 use borrow.Author.Needs.{needs}
 use Rattle.rules.specs.Chain.{chain}
-use Rattle.index.specs.Asked.{asked}
+use Rattle.index.specs.Asked.{askedOn}
+use Rattle.chain.proofs.Days.{home-on}
 use Rattle.chain.proofs.Linking.{found-none}
 use Rattle.chain.proofs.Deriving.{chain-misfit, chain-fits}
 use Rattle.chain.proofs.derivation.chain_of.Statement.{statement}
@@ -11,7 +12,7 @@ use Rattle.chain.proofs.derivation.chain_of.Tie as tie
 returns : tie.Need-returns
 returns c =
     let a = c .before .before .args in
-    found-none (a .steps .now) _ 3 (λ e. omega (arith, e)) (chain-misfit (a .steps .now) (asked (a .index .now)) (a .security) (a .delivering) (a .receiving) (c .if1 .taken))
+    found-none (a .steps .now) _ 3 (λ e. omega (arith, e)) (chain-misfit (a .steps .now) (askedOn (a .index .now) (a .day)) (a .security) (a .delivering) (a .receiving) (c .if1 .taken))
 
 home-of-requires : tie.Need-home-of-requires
 home-of-requires c κs = search needs
@@ -32,7 +33,7 @@ returns-2 : tie.Need-returns-2
 unfolding chain
 returns-2 c =
     let a = c .before .before .before .before .before .before .before .before .before .args in
-    rw (chain-fits (a .steps .now) (asked (a .index .now)) (a .security) (a .delivering) (a .receiving) (c .before .before .before .before .before .before .before .if1 .left), ← c .before .before .before .before .before .before .home-of .ensures, ← c .before .before .before .before .before .home-of2 .ensures, ← c .before .before .before .before .route-of .ensures)
+    rw (chain-fits (a .steps .now) (askedOn (a .index .now) (a .day)) (a .security) (a .delivering) (a .receiving) (c .before .before .before .before .before .before .before .if1 .left), ← home-on (a .index .now) (a .day) (a .delivering), ← home-on (a .index .now) (a .day) (a .receiving), ← c .before .before .before .before .before .before .home-of .ensures, ← c .before .before .before .before .before .home-of2 .ensures, ← c .before .before .before .before .route-of .ensures)
     (c .before .before .steps-along .ensures)
 
 pub chain-of-spec : {M : Type 1} → statement M

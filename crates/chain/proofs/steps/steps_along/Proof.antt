@@ -1,9 +1,12 @@
 -- The route's refusal, 18 where a pair is missing, or the steps of both sides with what stands between.
+use mathlib.Core.Path.{_∙_}
 use mathlib.Core.List.{[]}
 use native.Mathlib.Omega.{arith}
 use borrow.Author.Needs.{needs}
 use borrow.Author.Tests.{not-true, not-false}
-use Rattle.index.specs.Asked.{asked}
+use Rattle.index.specs.Asked.{askedOn}
+use Rattle.walks.specs.Sides.{named}
+use Rattle.chain.proofs.Days.{climb-on}
 use Rattle.chain.proofs.StepList.{holds-none}
 use Rattle.chain.proofs.Linking.{found-none, found-steps, along-refused, along-unpaired, along-paired}
 use Rattle.chain.proofs.steps.steps_along.Statement.{statement}
@@ -12,7 +15,7 @@ use Rattle.chain.proofs.steps.steps_along.Tie as tie
 returns : tie.Need-returns
 returns c =
     let a = c .before .before .before .args in
-    found-none (a .steps .now) _ (a .route .refusal) (c .if1 .taken) (along-refused (asked (a .index .now)) (a .security) (a .delivering) (a .receiving) (a .route) (c .if1 .taken))
+    found-none (a .steps .now) _ (a .route .refusal) (c .if1 .taken) (along-refused (askedOn (a .index .now) (a .day)) (a .security) (a .delivering) (a .receiving) (a .route) (c .if1 .taken))
 
 climb-side-requires : tie.Need-climb-side-requires
 climb-side-requires c κs = search needs
@@ -26,7 +29,7 @@ returns-2 c =
     let up = c .before .before .before .before .before .climb-side in
     let down = c .before .before .before .climb-side2 in
     found-none (a .steps .now) _ 18 (λ e. omega (arith, e))
-    (along-unpaired (asked (a .index .now)) (a .security) (a .delivering) (a .receiving) (a .route) (c .before .before .before .before .before .before .before .if1 .left) (up .result) (down .result) (up .last .1 .1 .1 .0) (down .last .1 .1 .1 .0) (up .ensures .0) (down .ensures .0) (not-true _ (c .if2 .taken)))
+    (along-unpaired (askedOn (a .index .now) (a .day)) (a .security) (a .delivering) (a .receiving) (a .route) (c .before .before .before .before .before .before .before .if1 .left) (up .result) (down .result) (up .last .1 .1 .1 .0) (down .last .1 .1 .1 .0) (up .ensures .0 ∙ climb-on (a .index .now) (a .day) (named (a .route .delivering)) (a .delivering)) (down .ensures .0 ∙ climb-on (a .index .now) (a .day) (named (a .route .receiving)) (a .receiving)) (not-true _ (c .if2 .taken)))
 
 last-of-requires : tie.Need-last-of-requires
 last-of-requires c κs = search needs
@@ -57,7 +60,7 @@ returns-3 c =
     let side = c .before .before .before .before .before .before .before .before .before .before .before .put-side .ensures (a .steps .now) [] size (holds-none (a .steps .now)) in
     let top = c .before .before .before .before .before .before .before .add-top .ensures .0 (a .steps .now) _ size side in
     found-steps _ _ _ (c .before .before .add-turned .ensures .1)
-    (along-paired (asked (a .index .now)) (a .security) (a .delivering) (a .receiving) (a .route) (c .before .before .before .before .before .before .before .before .before .before .before .before .before .before .before .before .before .before .before .before .before .before .before .if1 .left) (up .result) (down .result) (up .last .1 .1 .1 .0) (down .last .1 .1 .1 .0) (up .ensures .0) (down .ensures .0) (not-false _ (c .before .before .before .before .before .before .before .before .before .before .before .before .before .before .before .before .if2 .left))
+    (along-paired (askedOn (a .index .now) (a .day)) (a .security) (a .delivering) (a .receiving) (a .route) (c .before .before .before .before .before .before .before .before .before .before .before .before .before .before .before .before .before .before .before .before .before .before .before .if1 .left) (up .result) (down .result) (up .last .1 .1 .1 .0) (down .last .1 .1 .1 .0) (up .ensures .0 ∙ climb-on (a .index .now) (a .day) (named (a .route .delivering)) (a .delivering)) (down .ensures .0 ∙ climb-on (a .index .now) (a .day) (named (a .route .receiving)) (a .receiving)) (not-false _ (c .before .before .before .before .before .before .before .before .before .before .before .before .before .before .before .before .if2 .left))
     (from .result) (to .result) (from .ensures) (to .ensures))
     (c .before .before .add-turned .ensures .0 (a .steps .now) _ size top)
 

@@ -1,16 +1,37 @@
--- By cases on an earlier investor link.
+-- By the flag.
+use mathlib.Core.Path.{_≡_, refl, _∙_}
+use mathlib.Core.Bool.{Bool, true, false, _||_}
+use native.Mathlib.Omega.{arith}
+use borrow.Author.Tests.{eq-eqb, ne-eqb}
 use borrow.Author.Needs.{needs}
 use Rattle.entries.proofs.refusals.flag_broken.Statement.{statement}
 use Rattle.entries.proofs.refusals.flag_broken.Tie as tie
 
-has-investor-requires : tie.Need-has-investor-requires
-has-investor-requires c κs = search needs
+alone : (b : Bool) → b ≡ (b || false)
+alone true = refl
+alone false = refl
+
+meets-link-requires : tie.Need-meets-link-requires
+meets-link-requires c κs = search needs
 
 returns : tie.Need-returns
-returns c = rw (← c .before .before .has-investor .ensures, c .before .if1 .taken)
+returns c =
+    let flag = c .before .before .before .args .row .flag in
+    c .meets-link .ensures ∙ rw (eq-eqb flag 1 (c .before .if1 .taken), ne-eqb flag 0 (λ e. omega arith)) (alone _)
+
+default-each-day-requires : tie.Need-default-each-day-requires
+default-each-day-requires c κs = search needs
 
 returns-2 : tie.Need-returns-2
-returns-2 c = rw (← c .before .before .has-investor .ensures, c .before .if1 .left)
+returns-2 c =
+    let flag = c .before .before .before .before .before .args .row .flag in
+    rw (ne-eqb flag 1 (λ e. omega arith), eq-eqb flag 0 (c .before .if2 .taken), c .default-each-day .ensures)
+
+returns-3 : tie.Need-returns-3
+returns-3 c =
+    let flag = c .before .before .before .before .args .row .flag in
+    rw (ne-eqb flag 1 (λ e. omega arith), ne-eqb flag 0 (λ e. omega arith))
 
 pub flag-broken-spec : {M : Type 1} → statement M
-flag-broken-spec = tie.close (tie.spec has-investor-requires returns returns-2)
+flag-broken-spec =
+    tie.close (tie.spec meets-link-requires returns default-each-day-requires returns-2 returns-3)

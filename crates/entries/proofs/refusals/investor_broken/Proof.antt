@@ -3,8 +3,8 @@ use borrow.Author.Needs.{needs}
 use Rattle.entries.proofs.refusals.investor_broken.Statement.{statement}
 use Rattle.entries.proofs.refusals.investor_broken.Tie as tie
 
-has-issuer-requires : tie.Need-has-issuer-requires
-has-issuer-requires c κs = search needs
+meets-link-requires : tie.Need-meets-link-requires
+meets-link-requires c κs = search needs
 
 flag-broken-requires : tie.Need-flag-broken-requires
 flag-broken-requires c κs = search needs
@@ -15,9 +15,9 @@ alternative-outside-requires c κs = search needs
 returns : tie.Need-returns
 returns c =
     let flag = c .before .before .before in
-    rw (flag .before .has-issuer .ensures, flag .flag-broken .ensures, c .before .before .alternative-outside .ensures)
+    rw (flag .before .meets-link .ensures, flag .flag-broken .ensures, c .before .before .alternative-outside .ensures)
 
 pub investor-broken-spec : {M : Type 1} → statement M
 investor-broken-spec =
     tie.close
-    (tie.spec has-issuer-requires flag-broken-requires alternative-outside-requires returns)
+    (tie.spec meets-link-requires flag-broken-requires alternative-outside-requires returns)

@@ -1,10 +1,15 @@
 -- Past the tests that do not apply, the number of the first that does.
 use Prim.Native.Nat.{ℕ}
 use mathlib.Core.Path.{_≡_, sym, _∙_}
+use native.Mathlib.Omega.{arith}
+use lib.Dec.{leb}
 use lib.ListN.{drop}
+use borrow.Author.Tests.{lt-ltb, le-ltb}
+use Rattle.rules.specs.Directory.{linkLimit}
 use Rattle.rules.specs.Tests.{firstOf}
 use Rattle.rules.specs.Entries.{linkConditions}
-use Rattle.index.specs.Asked.{asked}
+use Rattle.index.specs.Index.{linkCount}
+use Rattle.index.specs.Asked.{read, asked}
 use Rattle.entries.specs.Entered.{linkRefusalIn}
 use borrow.Author.Needs.{needs}
 use Rattle.entries.proofs.refusals.link_refusal.Statement.{statement}
@@ -13,7 +18,7 @@ use Rattle.entries.proofs.refusals.link_refusal.Tie as tie
 -- past the first k tests the number is the first of the others
 abbrev Past : ℕ → tie.Start → Type 0
 Past k s =
-    let conditions = linkConditions (asked (s .args .index .now)) (s .args .row) in
+    let conditions = linkConditions (leb linkLimit (read (s .args .index .now) linkCount)) (asked (s .args .index .now)) (s .args .row) in
     firstOf conditions ≡ firstOf (drop k conditions)
 
 past1 : (c : tie.Else1) → Past 1 (c .before .before)
@@ -32,7 +37,10 @@ past5 : (c : tie.Else5) → Past 5 (c .before .before .before .before .before .b
 past5 c = past4 (c .before .before) ∙ rw (← c .before .wrong-issuance .ensures, c .if5 .left)
 
 past6 : (c : tie.Else6) → Past 6 (c .before .before .before .before .before .before .before .before .before .before .before .before .before)
-past6 c = past5 (c .before .before) ∙ rw (← c .before .rule-broken .ensures, c .if6 .left)
+past6 c = let x = c .before .before .before .before .before .before .before .before .before .before .before .before .before .args .row in past5 (c .before .before) ∙ rw (le-ltb (x .last) (x .first) (omega arith))
+
+past7 : (c : tie.Else7) → Past 7 (c .before .before .before .before .before .before .before .before .before .before .before .before .before .before .before)
+past7 c = past6 (c .before .before) ∙ rw (← c .before .rule-broken .ensures, c .if7 .left)
 
 links-full-requires : tie.Need-links-full-requires
 links-full-requires c κs = search needs
@@ -66,16 +74,20 @@ returns-5 : tie.Need-returns-5
 unfolding linkRefusalIn
 returns-5 c = sym (past4 (c .before .before) ∙ rw (← c .before .wrong-issuance .ensures, c .if5 .taken))
 
+returns-6 : tie.Need-returns-6
+unfolding linkRefusalIn
+returns-6 c = let x = c .before .before .before .before .before .before .before .before .before .before .before .before .before .args .row in sym (past5 (c .before .before) ∙ rw (lt-ltb (x .last) (x .first) (omega arith)))
+
 rule-broken-requires : tie.Need-rule-broken-requires
 rule-broken-requires c κs = search needs
 
-returns-6 : tie.Need-returns-6
-unfolding linkRefusalIn
-returns-6 c = sym (past5 (c .before .before) ∙ rw (← c .before .rule-broken .ensures, c .if6 .taken))
-
 returns-7 : tie.Need-returns-7
 unfolding linkRefusalIn
-returns-7 c = sym (past6 c)
+returns-7 c = sym (past6 (c .before .before) ∙ rw (← c .before .rule-broken .ensures, c .if7 .taken))
+
+returns-8 : tie.Need-returns-8
+unfolding linkRefusalIn
+returns-8 c = sym (past7 c)
 
 pub link-refusal-spec : {M : Type 1} → statement M
 link-refusal-spec =
@@ -90,6 +102,7 @@ link-refusal-spec =
     returns-4
     wrong-issuance-requires
     returns-5
-    rule-broken-requires
     returns-6
-    returns-7)
+    rule-broken-requires
+    returns-7
+    returns-8)

@@ -1,5 +1,5 @@
 -- The code is one more than the kind.
-use Rattle.index.specs.Asked.{asked}
+use Rattle.index.specs.Asked.{askedBy}
 use borrow.Author.Needs.{needs}
 use Rattle.index.proofs.lookups.is_kind.Statement.{statement}
 use Rattle.index.proofs.lookups.is_kind.Tie as tie
@@ -11,7 +11,7 @@ add-result : tie.Need-add-result
 add-result c = search needs
 
 returns : tie.Need-returns
-unfolding asked
+unfolding askedBy
 returns c = rw (c .kind-code .ensures)
 
 pub is-kind-spec : {M : Type 1} → statement M

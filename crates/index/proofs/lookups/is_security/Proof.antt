@@ -1,5 +1,5 @@
 -- The index has the count.
-use Rattle.index.specs.Asked.{read, asked}
+use Rattle.index.specs.Asked.{read, askedBy}
 use borrow.Author.Needs.{needs}
 use Rattle.index.proofs.lookups.is_security.Statement.{statement}
 use Rattle.index.proofs.lookups.is_security.Tie as tie
@@ -8,7 +8,7 @@ entry-requires : tie.Need-entry-requires
 entry-requires c κs = search needs
 
 returns : tie.Need-returns
-unfolding asked read
+unfolding askedBy read
 returns c = rw (c .entry .ensures)
 
 pub is-security-spec : {M : Type 1} → statement M

@@ -1,7 +1,7 @@
 -- The row has the first account by its place, and the second beside it.
 use borrow.Author.Tests.{ne-eqb}
 use Rattle.rules.proofs.Basics.{unnot, unnot-false}
-use Rattle.index.specs.Asked.{asked}
+use Rattle.index.specs.Asked.{askedBy}
 use Rattle.index.specs.Found.{pairFound}
 use borrow.Author.Needs.{needs}
 use Rattle.index.proofs.lookups.pair_of.Statement.{statement}
@@ -11,14 +11,14 @@ in-books-requires : tie.Need-in-books-requires
 in-books-requires c κs = search needs
 
 returns : tie.Need-returns
-unfolding asked pairFound
+unfolding askedBy pairFound
 returns c = rw (← c .before .in-books .ensures, unnot (c .before .in-books .result) (c .if1 .taken))
 
 served-code-requires : tie.Need-served-code-requires
 served-code-requires c κs = search needs
 
 returns-2 : tie.Need-returns-2
-unfolding asked pairFound
+unfolding askedBy pairFound
 returns-2 c = rw (← c .before .before .before .in-books .ensures, unnot-false (c .before .before .before .in-books .result) (c .before .before .if1 .left), ← c .before .served-code .ensures, c .if2 .taken)
 
 sub-mirror : tie.Need-sub-mirror
@@ -28,7 +28,7 @@ omnibus-beside-requires : tie.Need-omnibus-beside-requires
 omnibus-beside-requires c κs = search needs
 
 returns-3 : tie.Need-returns-3
-unfolding asked pairFound
+unfolding askedBy pairFound
 returns-3 c =
     let code = c .before .before .served-code in
     rw (

@@ -27,8 +27,8 @@ returns c =
     let a = c .before .before .before .before .before .before .args in
     let x = c .before .before .before .decode-move in
     moved (a .directory) (a .positions .now) (a .cash .now) (callOf (a .tag) (a .operands .now)) (c .before .bring-in .result) (c .before .bring-in .last .1 .0) incoming
-    (x .result .account) (x .result .security) (x .result .quantity)
-    (ap (λ (y : Move). move incoming (y .account) (y .security) (y .quantity)) (x .ensures) ∙ sym (bring-in-call (a .tag) (a .operands .now) (omega arith))) (c .before .bring-in .ensures)
+    (x .result .account) (x .result .security) (x .result .quantity) (x .result .day)
+    (ap (λ (y : Move). move incoming (y .account) (y .security) (y .quantity) (y .day)) (x .ensures) ∙ sym (bring-in-call (a .tag) (a .operands .now) (omega arith))) (c .before .bring-in .ensures)
 
 decode-move-requires-2 : tie.Need-decode-move-requires-2
 decode-move-requires-2 c κs = search needs
@@ -44,8 +44,8 @@ returns-2 c =
     let a = c .before .before .before .before .before .before .before .args in
     let x = c .before .before .before .decode-move2 in
     moved (a .directory) (a .positions .now) (a .cash .now) (callOf (a .tag) (a .operands .now)) (c .before .take-out .result) (c .before .take-out .last .1 .0) outgoing
-    (x .result .account) (x .result .security) (x .result .quantity)
-    (ap (λ (y : Move). move outgoing (y .account) (y .security) (y .quantity)) (x .ensures) ∙ sym (take-out-call (a .tag) (a .operands .now) (omega arith))) (c .before .take-out .ensures)
+    (x .result .account) (x .result .security) (x .result .quantity) (x .result .day)
+    (ap (λ (y : Move). move outgoing (y .account) (y .security) (y .quantity) (y .day)) (x .ensures) ∙ sym (take-out-call (a .tag) (a .operands .now) (omega arith))) (c .before .take-out .ensures)
 
 decode-payment-requires : tie.Need-decode-payment-requires
 decode-payment-requires c κs = search needs

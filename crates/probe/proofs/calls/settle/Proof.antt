@@ -6,7 +6,7 @@ use native.Mathlib.Omega.{arith}
 use lib.ListN.{take}
 use lib.Seq.{length-take-le}
 use Rattle.probe.specs.Exports.{fits}
-use Rattle.wire.specs.Operands.{halvesIn}
+use Rattle.wire.specs.Operands.{halvesIn, dayIn}
 use Rattle.probe.proofs.Exported.{no-counts, no-rows, settle-cut, settled}
 use borrow.Author.Needs.{needs}
 use Rattle.probe.proofs.calls.settle.Statement.{statement}
@@ -73,6 +73,7 @@ returns-4 c =
     let a = s .args in
     settled (a .counts .now) (a .rows .now) (omega (arith, x .before .if1 .left)) (omega (arith, x .if2 .left)) (d .result) (d .ensures) (a .tag) (a .bytes .now) (a .steps .now)
     (omega (arith, c .before .before .before .before .before .before .before .before .before .before .before .if3 .left, n .width .ensures)) _ (ap (λ (m : ℕ). take m (a .bytes .now)) (n .width .ensures)) (halvesIn (a .tag) (take (n .width .result) (a .bytes .now))) refl
+    (dayIn (a .tag) (take (n .width .result) (a .bytes .now))) refl
     (r .result) (w .result) (w .last .0) (w .ensures) (s .pre) (a .positions .now) (a .cash .now) (r .last .1 .0) (r .last .1 .1 .0) (r .ensures)
 
 pub settle-spec : {M : Type 1} → statement M

@@ -24,7 +24,7 @@ returns c =
     let p = c .before .before .before .before .before .before .before .before in
     let a = p .before .before .args in
     rw (p .if1 .taken)
-    (λ hs handed names. settle-obeys hs (now (a .index)) (now (a .steps)) _ _ (same-length-3 c) names (now (a .positions)) (now (a .cash)) _ _
+    (λ hs handed names. settle-obeys hs (a .day) (now (a .index)) (now (a .steps)) _ _ (same-length-3 c) names (now (a .positions)) (now (a .cash)) _ _
     (handed-settles handed _ _ _ _ _ _ _ _ (c .before .before .before .before .settle .ensures)))
 
 derive-requires : tie.Need-derive-requires
@@ -38,7 +38,7 @@ returns-2 c =
     let p = c .before .before .before .before in
     let a = p .before .before .args in
     rw (p .if1 .left)
-    (λ hs handed names. derive-obeys hs (now (a .index)) (now (a .steps)) _ _ (same-length-4 c) names (now (a .positions)) (now (a .cash))
+    (λ hs handed names. derive-obeys hs (a .day) (now (a .index)) (now (a .steps)) _ _ (same-length-4 c) names (now (a .positions)) (now (a .cash))
     (handed-derives handed _ _ _ _ (c .before .before .derive .ensures)))
 
 pub instruct-pair-spec : {M : Type 1} → statement M

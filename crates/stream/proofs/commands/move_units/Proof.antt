@@ -25,7 +25,7 @@ returns c =
     let s = c .before .before .before .before .before in
     let a = s .args in
     let m = c .before .move-securities .ensures in
-    move-obeys _ _ _ _ _ (now (a .index)) (now (a .positions)) _ _ (move-call (a .tag) (now (a .operands)) (s .pre .0) (s .pre .1) ∙ ap (λ (y : Move). move (wayOf (eqb (a .tag) 6)) (y .account) (y .security) (y .quantity)) (sym (c .before .before .before .decode-move .ensures)))
+    move-obeys _ _ _ _ _ _ (now (a .index)) (now (a .positions)) _ _ (move-call (a .tag) (now (a .operands)) (s .pre .0) (s .pre .1) ∙ ap (λ (y : Move). move (wayOf (eqb (a .tag) 6)) (y .account) (y .security) (y .quantity) (y .day)) (sym (c .before .before .before .decode-move .ensures)))
     (m .0) (m .1)
 
 pub move-units-spec : {M : Type 1} → statement M

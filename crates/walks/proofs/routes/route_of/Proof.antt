@@ -2,7 +2,7 @@
 use mathlib.Core.Path.{sym, _∙_}
 use Rattle.walks.specs.Walks.{walkOf}
 use Rattle.walks.proofs.Routing.{unmet, same-csd, walks-meet, reaches, reaches-back, ends-judged}
-use Rattle.index.specs.Asked.{asked}
+use Rattle.index.specs.Asked.{askedOn}
 use borrow.Author.Needs.{needs}
 use Rattle.walks.proofs.routes.route_of.Statement.{statement}
 use Rattle.walks.proofs.routes.route_of.Tie as tie
@@ -19,7 +19,7 @@ joined-requires c κs = search needs
 returns : tie.Need-returns
 returns c =
     let a = c .before .before .before .before .args in
-    c .joined .ensures ∙ rw (c .before .before .alone .ensures, c .before .alone2 .ensures) (same-csd (asked (a .index .now)) (a .security) (a .from) (a .to) (c .before .before .before .if1 .taken))
+    c .joined .ensures ∙ rw (c .before .before .alone .ensures, c .before .alone2 .ensures) (same-csd (askedOn (a .index .now) (a .day)) (a .security) (a .from) (a .to) (c .before .before .before .if1 .taken))
 
 default-walk-requires : tie.Need-default-walk-requires
 default-walk-requires c κs = search needs
@@ -51,8 +51,8 @@ returns-2 c =
     let w = u .before .before .default-walk in
     let v = u .before .default-walk2 in
     let a = u .before .before .before .before .args in
-    let meets = u .shared-csds .ensures (asked (a .index .now)) (a .security) (a .from) (a .to) (w .ensures) (v .ensures) in
-    c .joined2 .ensures ∙ rw (c .before .before .without-last .ensures, c .before .without-last2 .ensures) (walks-meet (asked (a .index .now)) (a .security) (a .from) (a .to)
+    let meets = u .shared-csds .ensures (askedOn (a .index .now) (a .day)) (a .security) (a .from) (a .to) (w .ensures) (v .ensures) in
+    c .joined2 .ensures ∙ rw (c .before .before .without-last .ensures, c .before .without-last2 .ensures) (walks-meet (askedOn (a .index .now) (a .day)) (a .security) (a .from) (a .to)
     (u .before .before .before .if1 .left) (walkOf (w .result)) (walkOf (v .result)) (w .ensures) (v .ensures) _ (c .before .before .before .if2 .taken) meets)
 
 directed-walk-requires : tie.Need-directed-walk-requires
@@ -73,10 +73,10 @@ returns-3 c =
     let w = u .before .before .default-walk in
     let v = u .before .default-walk2 in
     let a = u .before .before .before .before .args in
-    let meets = u .shared-csds .ensures (asked (a .index .now)) (a .security) (a .from) (a .to) (w .ensures) (v .ensures) in
+    let meets = u .shared-csds .ensures (askedOn (a .index .now) (a .day)) (a .security) (a .from) (a .to) (w .ensures) (v .ensures) in
     let x = c .before .before .before .before .directed-walk in
-    let apart = unmet (u .shared-csds .result) (asked (a .index .now)) (walkOf (w .result)) (walkOf (v .result)) (c .before .before .before .before .before .if2 .left) meets in
-    c .joined3 .ensures ∙ rw (c .before .alone3 .ensures) (reaches (asked (a .index .now)) (a .security) (a .from) (a .to)
+    let apart = unmet (u .shared-csds .result) (askedOn (a .index .now) (a .day)) (walkOf (w .result)) (walkOf (v .result)) (c .before .before .before .before .before .if2 .left) meets in
+    c .joined3 .ensures ∙ rw (c .before .alone3 .ensures) (reaches (askedOn (a .index .now) (a .day)) (a .security) (a .from) (a .to)
     (u .before .before .before .if1 .left) (walkOf (w .result)) (walkOf (v .result)) (w .ensures) (v .ensures) apart
     (walkOf (x .result)) (x .ensures) (sym (c .before .before .before .has-reached .ensures) ∙ c .before .before .if3 .taken))
 
@@ -98,11 +98,11 @@ returns-4 c =
     let w = u .before .before .default-walk in
     let v = u .before .default-walk2 in
     let a = u .before .before .before .before .args in
-    let meets = u .shared-csds .ensures (asked (a .index .now)) (a .security) (a .from) (a .to) (w .ensures) (v .ensures) in
+    let meets = u .shared-csds .ensures (askedOn (a .index .now) (a .day)) (a .security) (a .from) (a .to) (w .ensures) (v .ensures) in
     let x = c .before .before .before .before .before .before .before .directed-walk in
     let y = c .before .before .before .before .directed-walk2 in
-    let apart = unmet (u .shared-csds .result) (asked (a .index .now)) (walkOf (w .result)) (walkOf (v .result)) (c .before .before .before .before .before .before .before .before .if2 .left) meets in
-    c .joined4 .ensures ∙ rw (c .before .alone4 .ensures) (reaches-back (asked (a .index .now)) (a .security) (a .from) (a .to)
+    let apart = unmet (u .shared-csds .result) (askedOn (a .index .now) (a .day)) (walkOf (w .result)) (walkOf (v .result)) (c .before .before .before .before .before .before .before .before .if2 .left) meets in
+    c .joined4 .ensures ∙ rw (c .before .alone4 .ensures) (reaches-back (askedOn (a .index .now) (a .day)) (a .security) (a .from) (a .to)
     (u .before .before .before .if1 .left) (walkOf (w .result)) (walkOf (v .result)) (w .ensures) (v .ensures) apart
     (walkOf (x .result)) (x .ensures) (sym (c .before .before .before .before .before .before .has-reached .ensures) ∙ c .before .before .before .before .before .if3 .left)
     (walkOf (y .result)) (y .ensures) (sym (c .before .before .before .has-reached2 .ensures) ∙ c .before .before .if4 .taken))
@@ -116,11 +116,11 @@ returns-5 c =
     let w = u .before .before .default-walk in
     let v = u .before .default-walk2 in
     let a = u .before .before .before .before .args in
-    let meets = u .shared-csds .ensures (asked (a .index .now)) (a .security) (a .from) (a .to) (w .ensures) (v .ensures) in
+    let meets = u .shared-csds .ensures (askedOn (a .index .now) (a .day)) (a .security) (a .from) (a .to) (w .ensures) (v .ensures) in
     let x = c .before .before .before .before .before .before .directed-walk in
     let y = c .before .before .before .directed-walk2 in
-    let apart = unmet (u .shared-csds .result) (asked (a .index .now)) (walkOf (w .result)) (walkOf (v .result)) (c .before .before .before .before .before .before .before .if2 .left) meets in
-    c .by-ends .ensures ∙ ends-judged (asked (a .index .now)) (a .security) (a .from) (a .to)
+    let apart = unmet (u .shared-csds .result) (askedOn (a .index .now) (a .day)) (walkOf (w .result)) (walkOf (v .result)) (c .before .before .before .before .before .before .before .if2 .left) meets in
+    c .by-ends .ensures ∙ ends-judged (askedOn (a .index .now) (a .day)) (a .security) (a .from) (a .to)
     (u .before .before .before .if1 .left) (walkOf (w .result)) (walkOf (v .result)) (w .ensures) (v .ensures) apart
     (walkOf (x .result)) (x .ensures) (sym (c .before .before .before .before .before .has-reached .ensures) ∙ c .before .before .before .before .if3 .left)
     (walkOf (y .result)) (y .ensures) (sym (c .before .before .has-reached2 .ensures) ∙ c .before .if4 .left)

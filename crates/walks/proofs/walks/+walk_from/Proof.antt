@@ -7,7 +7,7 @@ use borrow.Author.Needs.{needs}
 use borrow.Fn.Kinds.{In}
 use borrow.Fn.PlainCycle.{Measures, is, falls, and}
 use Rattle.rules.specs.Walks.{sideLimit}
-use Rattle.index.specs.Asked.{asked}
+use Rattle.index.specs.Asked.{askedOn}
 use Rattle.walks.specs.Walks.{hopOf}
 use Rattle.walks.proofs.Walking.{none-left, ends-here, goes-on}
 use Rattle.walks.proofs.walks.walk_from.Reads as reads
@@ -44,7 +44,7 @@ add-result t c = omega (arith, c .way-of .ensures .1)
 returns : (t : ℕ) → lts.Need-returns (known t) (at t) reads.Post
 returns t c =
     let a = c .before .before .args in
-    rw (c .way-of .ensures .0) (none-left (hopOf (asked (a .index .now)) (a .security) (a .directed) (a .target)) (a .csds .now) (a .left) (a .csd) (c .before .if1 .taken))
+    rw (c .way-of .ensures .0) (none-left (hopOf (askedOn (a .index .now) (a .day)) (a .security) (a .directed) (a .target)) (a .csds .now) (a .left) (a .csd) (c .before .if1 .taken))
 
 sub-csds : (t : ℕ) → lts.Need-sub-csds (known t) (at t) reads.Post
 sub-csds t c = search needs
@@ -87,7 +87,7 @@ returns-2 t c =
     let a = c .before .before .before .before .before .before .args in
     let whole : length (a .csds .now) ≡ sideLimit = search needs in
     let few : a .left ≤ sideLimit = search needs in
-    rw (c .way-of2 .ensures .0) (ends-here (hopOf (asked (a .index .now)) (a .security) (a .directed) (a .target)) (a .csds .now) (a .left) (a .csd) whole (c .before .before .before .before .before .if1 .left) few
+    rw (c .way-of2 .ensures .0) (ends-here (hopOf (askedOn (a .index .now) (a .day)) (a .security) (a .directed) (a .target)) (a .csds .now) (a .left) (a .csd) whole (c .before .before .before .before .before .if1 .left) few
     (sym (c .before .before .before .before .hop-at .ensures) ∙ c .before .before .end .given .1))
 
 returns-3 : (t : ℕ) → lts.Need-returns-3 (known t) (at t) reads.Post
@@ -96,7 +96,7 @@ returns-3 t c =
     let whole : length (a .csds .now) ≡ sideLimit = search needs in
     let few : a .left ≤ sideLimit = search needs in
     let rest = c .walk-from in
-    goes-on (hopOf (asked (a .index .now)) (a .security) (a .directed) (a .target)) (a .csds .now) (a .left) (a .csd) whole (c .before .before .before .before .before .before .if1 .left) few (rest .result) _
+    goes-on (hopOf (askedOn (a .index .now) (a .day)) (a .security) (a .directed) (a .target)) (a .csds .now) (a .left) (a .csd) whole (c .before .before .before .before .before .before .if1 .left) few (rest .result) _
     (sym (c .before .before .before .before .before .hop-at .ensures) ∙ c .before .before .before .next .given .1) (rest .ensures)
 
 pub +walk-from-spec : {M : Type 1} → statement M

@@ -1,7 +1,8 @@
 -- The test of the definition, then where the CSD's links lead.
 use mathlib.Core.Path.{sym, _∙_}
 use Rattle.rules.specs.Walks.{defaultHop}
-use Rattle.index.specs.Asked.{asked}
+use Rattle.index.specs.Asked.{askedOn}
+use Rattle.walks.proofs.Days.{outside-on}
 use Rattle.walks.proofs.Hops.{hop-led}
 use borrow.Author.Needs.{needs}
 use Rattle.walks.proofs.walks.default_hop.Statement.{statement}
@@ -12,7 +13,9 @@ is-external-requires c κs = search needs
 
 returns : tie.Need-returns
 unfolding defaultHop
-returns c = rw (← c .before .is-external .ensures, c .if1 .taken)
+returns c =
+    let a = c .before .before .args in
+    rw (← outside-on (a .index .now) (a .day) (a .csd), ← c .before .is-external .ensures, c .if1 .taken)
 
 leading-at-requires : tie.Need-leading-at-requires
 leading-at-requires c κs = search needs
@@ -29,19 +32,19 @@ enum-told-2 c = search needs
 returns-2 : tie.Need-returns-2
 returns-2 c =
     let a = c .before .before .before .before .before .args in
-    hop-led (asked (a .index .now)) (a .security) (a .csd) _ (sym (c .before .before .before .before .is-external .ensures) ∙ c .before .before .before .if1 .left)
+    hop-led (askedOn (a .index .now) (a .day)) (a .security) (a .csd) _ (sym (c .before .before .before .before .is-external .ensures ∙ outside-on (a .index .now) (a .day) (a .csd)) ∙ c .before .before .before .if1 .left)
     (sym (c .enum-told .given .1) ∙ c .before .before .leading-at .ensures)
 
 returns-3 : tie.Need-returns-3
 returns-3 c =
     let a = c .before .before .before .before .before .before .args in
-    hop-led (asked (a .index .now)) (a .security) (a .csd) _ (sym (c .before .before .before .before .before .is-external .ensures) ∙ c .before .before .before .before .if1 .left)
+    hop-led (askedOn (a .index .now) (a .day)) (a .security) (a .csd) _ (sym (c .before .before .before .before .before .is-external .ensures ∙ outside-on (a .index .now) (a .day) (a .csd)) ∙ c .before .before .before .before .if1 .left)
     (sym (c .before .technical .given .1) ∙ c .before .before .before .leading-at .ensures)
 
 returns-4 : tie.Need-returns-4
 returns-4 c =
     let a = c .before .before .before .before .before .args in
-    hop-led (asked (a .index .now)) (a .security) (a .csd) _ (sym (c .before .before .before .before .is-external .ensures) ∙ c .before .before .before .if1 .left)
+    hop-led (askedOn (a .index .now) (a .day)) (a .security) (a .csd) _ (sym (c .before .before .before .before .is-external .ensures ∙ outside-on (a .index .now) (a .day) (a .csd)) ∙ c .before .before .before .if1 .left)
     (sym (c .enum-told2 .given .1) ∙ c .before .before .leading-at .ensures)
 
 pub default-hop-spec : {M : Type 1} → statement M

@@ -2,6 +2,7 @@
 use mathlib.Core.Bool.{and-false}
 use borrow.Author.Tests.{eq-eqb, ne-eqb}
 use Rattle.rules.specs.Walks.{defaultHop, directedHop}
+use Rattle.walks.proofs.Days.{outside-on}
 use borrow.Author.Needs.{needs}
 use Rattle.walks.proofs.walks.directed_hop.Statement.{statement}
 use Rattle.walks.proofs.walks.directed_hop.Tie as tie
@@ -18,12 +19,15 @@ is-external-requires c κs = search needs
 
 returns-2 : tie.Need-returns-2
 unfolding defaultHop directedHop
-returns-2 c = rw (ne-eqb _ _ (c .before .before .before .before .if1 .left), ← c .before .is-external .ensures, c .if3 .taken)
+returns-2 c =
+    let a = c .before .before .before .before .before .args in
+    rw (ne-eqb _ _ (c .before .before .before .before .if1 .left), ← outside-on (a .index .now) (a .day) (a .csd), ← c .before .is-external .ensures, c .if3 .taken)
 
 returns-3 : tie.Need-returns-3
 unfolding directedHop
 returns-3 c =
-    rw (ne-eqb _ _ (c .before .before .before .before .if1 .left), ← c .before .is-external .ensures, c .if3 .left, ← c .before .before .before .has-link-to .ensures, c .before .before .if2 .taken)
+    let a = c .before .before .before .before .before .args in
+    rw (ne-eqb _ _ (c .before .before .before .before .if1 .left), ← outside-on (a .index .now) (a .day) (a .csd), ← c .before .is-external .ensures, c .if3 .left, ← c .before .before .before .has-link-to .ensures, c .before .before .if2 .taken)
 
 default-hop-requires : tie.Need-default-hop-requires
 default-hop-requires c κs = search needs

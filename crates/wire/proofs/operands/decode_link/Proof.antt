@@ -21,8 +21,14 @@ one-byte-requires-5 c κs = search needs
 two-bytes-requires : tie.Need-two-bytes-requires
 two-bytes-requires c κs = search needs
 
+two-bytes-requires-2 : tie.Need-two-bytes-requires-2
+two-bytes-requires-2 c κs = search needs
+
+two-bytes-requires-3 : tie.Need-two-bytes-requires-3
+two-bytes-requires-3 c κs = search needs
+
 returns : tie.Need-returns
-returns c = rw (c .before .before .before .before .before .one-byte .ensures, c .before .before .before .before .one-byte2 .ensures, c .before .before .before .one-byte3 .ensures, c .before .before .one-byte4 .ensures, c .before .one-byte5 .ensures, c .two-bytes .ensures)
+returns c = rw (c .before .before .before .before .before .before .before .one-byte .ensures, c .before .before .before .before .before .before .one-byte2 .ensures, c .before .before .before .before .before .one-byte3 .ensures, c .before .before .before .before .one-byte4 .ensures, c .before .before .before .one-byte5 .ensures, c .before .before .two-bytes .ensures, c .before .two-bytes2 .ensures, c .two-bytes3 .ensures)
 
 pub decode-link-spec : {M : Type 1} → statement M
 decode-link-spec =
@@ -34,4 +40,6 @@ decode-link-spec =
     one-byte-requires-4
     one-byte-requires-5
     two-bytes-requires
+    two-bytes-requires-2
+    two-bytes-requires-3
     returns)

@@ -12,9 +12,12 @@ one-byte-requires c κs = search needs
 eight-bytes-requires : tie.Need-eight-bytes-requires
 eight-bytes-requires c κs = search needs
 
+two-bytes-requires-2 : tie.Need-two-bytes-requires-2
+two-bytes-requires-2 c κs = search needs
+
 returns : tie.Need-returns
-returns c = rw (c .before .before .two-bytes .ensures, c .before .one-byte .ensures, c .eight-bytes .ensures)
+returns c = rw (c .before .before .before .two-bytes .ensures, c .before .before .one-byte .ensures, c .before .eight-bytes .ensures, c .two-bytes2 .ensures)
 
 pub decode-move-spec : {M : Type 1} → statement M
 decode-move-spec =
-    tie.close (tie.spec two-bytes-requires one-byte-requires eight-bytes-requires returns)
+    tie.close (tie.spec two-bytes-requires one-byte-requires eight-bytes-requires two-bytes-requires-2 returns)
