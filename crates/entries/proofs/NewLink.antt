@@ -19,7 +19,7 @@ use Rattle.rules.proofs.Basics.{impossible, untrue}
 use Rattle.rules.proofs.RowTests.{says-link}
 use Rattle.rules.proofs.Accounts.{security-small}
 use Rattle.rules.proofs.NewLinks.{NewLink, accepted-link}
-use Rattle.index.specs.Index.{Place, linkCount, newestAt, linkAt, linkNumbers, newestCode, linkCode, numberOf, Inside, indexOf}
+use Rattle.index.specs.Index.{Place, linkCount, newestAt, linkAt, linkNumbers, rowAt, newestCode, linkCode, numberOf, Inside, indexOf}
 use Rattle.index.proofs.LookingUp.{facts, csd-small}
 use Rattle.index.proofs.LinkList.{reversed}
 use Rattle.index.proofs.Laws.{unknown, one-more-row, row-new, row-old}
@@ -28,7 +28,7 @@ use Rattle.entries.proofs.Stored.{Store, Apart, Change}
 use Rattle.entries.proofs.ByTable.{OfLinks, Same, every-place, same-csds, same-securities, same-accounts, same-pairs}
 use Rattle.entries.proofs.Growing.{not-full, same-names, number-is, grown}
 
--- one of its numbers, where `next` is the code of the next older link
+-- one of its numbers, where the next older link stands at `next`
 abbrev number : Link → ℕ → ℕ → ℕ → Store
 number x n next f = record { at = linkAt n f; number = numberOf next x f }
 
@@ -37,7 +37,7 @@ abbrev numbers : Link → ℕ → ℕ → List Store
 numbers x n next = number x n next 6 ∷ number x n next 5 ∷ number x n next 4 ∷ number x n next 3 ∷ number x n next 2 ∷ number x n next 1 ∷ number x n next 0 ∷ []
 
 abbrev stores : Link → ℕ → ℕ → List Store
-stores x n next = record { at = newestAt (x .security) (x .csd); number = n + 1 } ∷ numbers x n next
+stores x n next = record { at = newestAt (x .security) (x .csd); number = rowAt n } ∷ numbers x n next
 
 -- the first n rows are the same where there are as many
 first-rows : {A : Type 0} (l : List A) (x : A) (n : ℕ) → n < length l → take n (l ++ (x ∷ [])) ≡ take n l
@@ -63,11 +63,11 @@ module _ (r : Rows) (x : Link) (few : length (r .links) < linkLimit) (cell : (x 
   ss = stores x n next
 
   -- it stands newest
-  newest-row : (s c : ℕ) → newestCode s c (reverse (r′ .links)) ≡ cond (isLink s c x) (suc n) (newestCode s c (reverse (r .links)))
+  newest-row : (s c : ℕ) → newestCode s c (reverse (r′ .links)) ≡ cond (isLink s c x) (rowAt n) (newestCode s c (reverse (r .links)))
   newest-row s c = rw (reversed (r .links) x, length-reverse (r .links))
 
-  here : newestCode (x .security) (x .csd) (reverse (r′ .links)) ≡ n + 1
-  here = rw (newest-row (x .security) (x .csd), says-link (x .security) (x .csd) x .tests (refl, refl)) (omega arith)
+  here : newestCode (x .security) (x .csd) (reverse (r′ .links)) ≡ rowAt n
+  here = rw (newest-row (x .security) (x .csd), says-link (x .security) (x .csd) x .tests (refl, refl))
 
   number-new : (f : ℕ) → indexOf r′ (linkAt n f) ≡ numberOf next x f
   number-new f = rw (row-new (r .links) x, whole-rows (r .links) x)
@@ -130,5 +130,5 @@ link-added k d x h ok =
     let F = facts (h .indexed) in
     let cell : (x .security < securityLimit) × (x .csd < csdLimit) =
     (security-small (rowsOn 0 d) F (x .security) (N .facts .securityRow), csd-small (rowsOn 0 d) F (x .csd) (N .facts .csdRow)) in
-    rw (number-is k d h linkCount tt, number-is k d h (newestAt (x .security) (x .csd)) cell, lt-ltb (length (r .links)) 0xffff (omega (arith, few)))
+    rw (number-is k d h linkCount tt, number-is k d h (newestAt (x .security) (x .csd)) cell, lt-ltb (length (r .links)) linkLimit few)
     (grown k d h (linkRow x) ok (change r x few cell) (k .names) (same-names (k .names) r (withRow (linkRow x) r) refl refl (h .named)))

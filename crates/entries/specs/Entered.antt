@@ -17,7 +17,7 @@ use Rattle.rules.specs.declared.Entered.{Entered}
 use Rattle.rules.specs.Tests.{firstOf}
 use Rattle.rules.specs.Directory.{rowsOf, csdLimit, securityLimit, linkLimit, noAccount}
 use Rattle.rules.specs.Entries.{Row, csdRow, securityRow, accountRow, pairRow, linkRow, csdConditions, securityConditions, accountConditions, pairConditions, linkConditions, rowConditions, addRow}
-use Rattle.index.specs.Index.{Indexed, Place, csdCount, securityCount, accountCount, pairCount, linkCount, placeOf, types, homes, kinds, mirrors, omnibuses, investors, technicals, served, newest, links, linkNumbers, numberAt, withNumber}
+use Rattle.index.specs.Index.{Indexed, Place, csdCount, securityCount, accountCount, pairCount, linkCount, placeOf, types, homes, kinds, mirrors, omnibuses, investors, technicals, served, newest, links, linkNumbers, rowAt, numberAt, withNumber}
 use Rattle.index.specs.Asked.{read, asked}
 use Rattle.identifiers.specs.Names.{bicSize, isinSize, isins, bicIn, isinIn, withBytes, Named}
 
@@ -104,6 +104,10 @@ unfoldable pub withPair : Pair → List ℕ → List ℕ
 withPair x l =
     counted pairCount (withDuo x (x .omnibus) (withDuo x (x .mirror) (withNumber l (served + (x .served * csdLimit + x .technical)) (oneMore (x .mirror)))))
 
+-- where the numbers of link n begin, 0 behind the last that an index has
+abbrev pub rowFor : ℕ → ℕ
+rowFor n = cond (ltb n linkLimit) (rowAt n) 0
+
 -- a link: its numbers behind those of the others, and it is the newest of its CSD for its security
 unfoldable pub withLink : Link → List ℕ → List ℕ
 withLink x l =
@@ -118,7 +122,7 @@ withLink x l =
     (links + (n * linkNumbers + 4)) (x .flag))
     (links + (n * linkNumbers + 5)) (x .technical))
     (links + (n * linkNumbers + 6)) (x .account) in
-    counted linkCount (withNumber numbers cell (oneMore n))
+    counted linkCount (withNumber numbers cell (rowFor n))
 
 -- any row
 abbrev pub withRowIn : Row → Kept → Kept

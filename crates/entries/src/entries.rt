@@ -37,6 +37,7 @@ use rules::Account;
 use rules::Answer;
 use rules::CSDS;
 use rules::Csd;
+use rules::LINKS;
 use rules::Link;
 use rules::NO_ACCOUNT;
 use rules::Pair;
@@ -46,7 +47,7 @@ ghost use Prim.Native.Nat.{_+_, _*_, _<_};
 ghost use Rattle.index.specs.Index.{csdCount, securityCount, links, linkNumbers, placeOf, numberAt, withNumber};
 ghost use Rattle.entries.specs.Entered.{accountRefusalIn, pairRefusalIn, linkRefusalIn};
 ghost use Rattle.entries.specs.Entered.{oneMore, withCsd, withBic, withSecurity, withIsin, withAccount};
-ghost use Rattle.entries.specs.Entered.{withDuo, withPair, withLink};
+ghost use Rattle.entries.specs.Entered.{withDuo, withPair, rowFor, withLink};
 ghost use Rattle.entries.specs.Entered.{answered, left, EntersCsd, EntersSecurity};
 
 // One more; a table's count and a pair's account are below the largest u16, which stays as it is.
@@ -137,6 +138,17 @@ fn put_number(index: &mut [u16; INDEX], link: u16, number: usize, value: u16)
     );
 }
 
+// Where the numbers of a link begin, 0 behind the last that an index has.
+fn row_for(link: u16) -> u16
+    ensures { λ r. ⌜ r ≡ rowFor link ⌝ }
+{
+    let n = link as usize;
+    if n < LINKS {
+        return (LINK_ROWS + n * LINK_NUMBERS) as u16;
+    }
+    0
+}
+
 // A link's numbers behind those of the others, and it is the newest of its CSD for its security.
 pub fn add_link(index: &mut [u16; INDEX], row: Link)
     ensures { λ _. ⌜ now (index .exit) ≡ withLink row (now (index .entry)) ⌝ }
@@ -151,7 +163,7 @@ pub fn add_link(index: &mut [u16; INDEX], row: Link)
     put_number(index, link, FLAG, row.flag as u16);
     put_number(index, link, TECHNICAL, row.technical as u16);
     put_number(index, link, ACCOUNT, row.account);
-    store(index, cell, one_more(link));
+    store(index, cell, row_for(link));
     count_on(index, LINK_COUNT);
 }
 

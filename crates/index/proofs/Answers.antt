@@ -24,7 +24,7 @@ use Rattle.rules.proofs.Days.{in-reverse, in-links}
 use Rattle.rules.proofs.Accounts.{security-small}
 use Rattle.rules.proofs.Soundness.{sound-gives, sound-links, few-links}
 use Rattle.rules.proofs.Pairs.{found-pair}
-use Rattle.index.specs.Index.{Indexed, Place, csdCount, securityCount, accountCount, pairCount, linkCount, typeAt, homeAt, kindAt, mirrorAt, omnibusAt, investorAt, technicalAt, servedAt, newestAt, linkAt, linkNumbers, newestCode, numberOf, linkCode, indexOf, typeCode, homeCode, duoOf, servedRow, mirrorCode, omnibusCode, investorCode, technicalCode}
+use Rattle.index.specs.Index.{Indexed, Place, csdCount, securityCount, accountCount, pairCount, linkCount, typeAt, homeAt, kindAt, mirrorAt, omnibusAt, investorAt, technicalAt, servedAt, newestAt, linkAt, linkNumbers, rowAt, numberAt, placeOf, newestCode, numberOf, linkCode, indexOf, typeCode, homeCode, duoOf, servedRow, mirrorCode, omnibusCode, investorCode, technicalCode}
 use Rattle.index.specs.Asked.{IndexAnswers, has, read, homeBy, booksIn, pairBy, duoIs, linksAt, linksOn, leads, asIssuer, asDefault, isThere, askedBy}
 use Rattle.index.proofs.Laws.{unknown}
 use Rattle.index.proofs.Found.{any-found, any-missing}
@@ -268,8 +268,13 @@ module _ {l : List ℕ} {d : Directory} (h : Indexed l d) where
       go false e = rw and-false (any-missing (serves i t a) (r .pairs) (no-triplet q (facts h) i t a e))
 
   -- links
+  link-reads : (n f : ℕ) → n < linkLimit → f < linkNumbers → numberAt l (rowAt n + f) ≡ linkCode (reverse (take n (r .links))) (getElem? (r .links) n) f
+  link-reads n f a b =
+      let same : rowAt n + f ≡ placeOf (linkAt n f) = omega arith in
+      rw same (number-at l (linkAt n f) (a, b) ∙ h .at (linkAt n f) (a, b))
+
   links-told : (s c : ℕ) → linksAt l s c ≡ linksFor (r .links) s c
-  links-told s c = rw (reads (newestAt s c)) (walked-all l (r .links) (λ n f. reads (linkAt n f)) technical-small (few-links d (h .soundBooks)) s c)
+  links-told s c = rw (reads (newestAt s c)) (walked-all l (r .links) (few-links d (h .soundBooks)) link-reads technical-small s c)
 
   issuer-of : (s c : ℕ) → find issues (linksAt l s c) ≡ issuerLink (r .links) s c
   unfolding issuerLink

@@ -1,6 +1,6 @@
 -- The list of an index is the search of the table: walked from the newest link on, it has the links of the CSD for the security, newest first. Those of a day
 -- are the same list without the others.
-use Prim.Native.Nat.{ℕ, zero, suc, _-_, _≤_, _<_}
+use Prim.Native.Nat.{ℕ, zero, suc, _+_, _≤_, _<_}
 use mathlib.Core.Path.{_≡_, refl, sym, ap, subst, _∙_}
 use mathlib.Core.Bool.{Bool, true, false, _&&_, cond}
 use mathlib.Core.List.{List, [], _∷_, _++_, reverse, reverse-cons, List·Memᴰ, List·Memᴰ·head, List·Memᴰ·tail}
@@ -9,15 +9,15 @@ use native.Mathlib.Omega.{arith}
 use native.Mathlib.Nat.{min-eq-left}
 use lib.Dec.{eqb, ltb}
 use lib.ListN.{length, take, getElem?, length-reverse, length-take}
-use borrow.Author.Tests.{le-ltb}
+use borrow.Author.Tests.{lt-ltb, le-ltb}
 use Rattle.rules.specs.declared.Link.{Link}
 use Rattle.rules.specs.Tests.{only}
 use Rattle.rules.specs.Directory.{Rows, csdLimit, linkLimit, noCsd, covers, isLink, linksOf, linksFor}
 use Rattle.rules.proofs.Basics.{impossible}
 use Rattle.rules.proofs.RowTests.{says-link}
-use Rattle.index.specs.Index.{linkAt, newestCode, linkCode}
-use Rattle.index.specs.Asked.{read, technicalBy, linkIn, linksFrom}
-use Rattle.index.proofs.LinkReading.{goes, links-end}
+use Rattle.index.specs.Index.{linkNumbers, rowAt, newestCode, linkCode, numberAt}
+use Rattle.index.specs.Asked.{technicalBy, linkIn, olderAt, linksFrom}
+use Rattle.index.proofs.LinkReading.{goes}
 
 -- ---- rows in reverse
 module _ {A : Type 0} where
@@ -84,45 +84,72 @@ module _ {A : Type 0} where
   all-rows [] = refl
   all-rows (x ∷ l) = ap (λ (n : List A). x ∷ n) (all-rows l)
 
--- ---- the list of an index
-module _ (l : List ℕ) (ls : List Link) (reads : (n f : ℕ) → read l (linkAt n f) ≡ linkCode (reverse (take n ls)) (getElem? ls n) f)
-    (small : (x : Link) → List·Memᴰ x ls → x .technical ≤ 0xff) (few : length ls ≤ linkLimit) (s c : ℕ) where
-  module _ (n : ℕ) (x : Link) (e : getElem? ls n ≡ some x) where
-    number : (f : ℕ) → read l (linkAt n f) ≡ linkCode (reverse (take n ls)) (some x) f
-    number f = reads n f ∙ ap (λ (o : Option Link). linkCode (reverse (take n ls)) o f) e
+-- no link from 0 on
+links-none : (l : List ℕ) (s c k : ℕ) → linksFrom l s c k 0 ≡ []
+unfolding linksFrom
+links-none l s c zero = refl
+links-none l s c (suc k) = refl
 
-    link-read : isLink s c x ≡ true → linkIn l s c n ≡ x
+-- older links stand before
+newest-before : (s c : ℕ) (older : List Link) → newestCode s c older < rowAt (length older)
+newest-before s c [] = omega arith
+newest-before s c (x ∷ older) = go (isLink s c x) (newest-before s c older)
+  where
+    go : (b : Bool) → newestCode s c older < rowAt (length older) → cond b (rowAt (length older)) (newestCode s c older) < rowAt (suc (length older))
+    go true below = omega arith
+    go false below = omega arith
+
+-- ---- the list of an index
+module _ (l : List ℕ) (ls : List Link) (few : length ls ≤ linkLimit)
+    (reads : (n f : ℕ) → n < linkLimit → f < linkNumbers → numberAt l (rowAt n + f) ≡ linkCode (reverse (take n ls)) (getElem? ls n) f)
+    (small : (x : Link) → List·Memᴰ x ls → x .technical ≤ 0xff) (s c : ℕ) where
+  module _ (n : ℕ) (x : Link) (e : getElem? ls n ≡ some x) (below : n < linkLimit) where
+    number : (f : ℕ) → f < linkNumbers → numberAt l (rowAt n + f) ≡ linkCode (reverse (take n ls)) (some x) f
+    number f h = reads n f below h ∙ ap (λ (o : Option Link). linkCode (reverse (take n ls)) o f) e
+
+    link-read : isLink s c x ≡ true → linkIn l s c (rowAt n) ≡ x
     unfolding linkIn
     link-read p =
         let of = says-link s c x .holds p in
-        let technical : technicalBy (read l (linkAt n 5)) ≡ x .technical = ap technicalBy (number 5) ∙ rw (le-ltb 0xff (x .technical) (small x (is-row ls n x e))) in
-        λ i. record { security = sym (of .0) i; kind = number 3 i; csd = sym (of .1) i; technical = technical i; flag = number 4 i; account = number 6 i; first = number 1 i; last = number 2 i }
+        let technical : technicalBy (numberAt l (rowAt n + 5)) ≡ x .technical = ap technicalBy (number 5 (omega arith)) ∙ rw (le-ltb 0xff (x .technical) (small x (is-row ls n x e))) in
+        let kind = number 3 (omega arith) in
+        let flag = number 4 (omega arith) in
+        let account = number 6 (omega arith) in
+        let first = number 1 (omega arith) in
+        let last = number 2 (omega arith) in
+        λ i. record { security = sym (of .0) i; kind = kind i; csd = sym (of .1) i; technical = technical i; flag = flag i; account = account i; first = first i; last = last i }
 
-  walked : (m k : ℕ) → m ≤ k → m ≤ length ls → linksFrom l s c k (newestCode s c (reverse (take m ls))) ≡ only (isLink s c) (reverse (take m ls))
+    next-read : isLink s c x ≡ true → length (reverse (take n ls)) ≡ n → olderAt l (rowAt n) ≡ newestCode s c (reverse (take n ls))
+    next-read p count =
+        let of = says-link s c x .holds p in
+        let next : numberAt l (rowAt n + 0) ≡ newestCode s c (reverse (take n ls)) = number 0 (omega arith) ∙ rw (of .0, of .1) in
+        let before : newestCode s c (reverse (take n ls)) < rowAt n = rw count at (newest-before s c (reverse (take n ls))) in
+        rw (next, lt-ltb (newestCode s c (reverse (take n ls))) (rowAt n) before)
+
+  walked : (m k : ℕ) → newestCode s c (reverse (take m ls)) ≤ k → m ≤ length ls → linksFrom l s c k (newestCode s c (reverse (take m ls))) ≡ only (isLink s c) (reverse (take m ls))
   unfolding linksFrom
-  walked zero k a b = links-end l s c k 0 refl
-  walked (suc m) zero a b = absurd (omega arith)
-  walked (suc m) (suc k) a b =
+  walked zero k a b = links-none l s c k
+  walked (suc m) k a b =
       let r = row-below ls m (omega arith) in
-      rw (one-further ls m (r .0) (r .1), reversed (take m ls) (r .0))
-      (go (r .0) (r .1) (isLink s c (r .0)) refl (walked m (suc k) (omega arith) (omega arith)) (walked m k (omega arith) (omega arith)))
+      let older = reverse (take m ls) in
+      let whole : reverse (take (suc m) ls) ≡ r .0 ∷ older = rw (one-further ls m (r .0) (r .1)) (reversed (take m ls) (r .0)) in
+      rw whole (go (r .0) (r .1) (isLink s c (r .0)) refl k (rw whole at a) (λ j h. walked m j h (omega arith)))
     where
-      older : List Link
-      older = reverse (take m ls)
-
-      count : length older ≡ m
+      count : length (reverse (take m ls)) ≡ m
       count = length-reverse (take m ls) ∙ (length-take m ls ∙ min-eq-left (omega arith))
 
-      go : (x : Link) → getElem? ls m ≡ some x → (p : Bool) → isLink s c x ≡ p
-          → linksFrom l s c (suc k) (newestCode s c older) ≡ only (isLink s c) older → linksFrom l s c k (newestCode s c older) ≡ only (isLink s c) older
-          → linksFrom l s c (suc k) (cond p (suc (length older)) (newestCode s c older)) ≡ cond p (x ∷ only (isLink s c) older) (only (isLink s c) older)
-      go x e true f same below =
-          let of = says-link s c x .holds f in
-          let next : read l (linkAt m 0) ≡ newestCode s c older = number m x e 0 ∙ rw (of .0, of .1) in
-          let link : suc m - 1 ≡ m = omega arith in
-          rw (count, goes (suc m) (omega arith) (omega (arith, few)), link, link-read m x e f, next, below)
-      go x e false f same below = same
+      go : (x : Link) → getElem? ls m ≡ some x → (p : Bool) → isLink s c x ≡ p → (k : ℕ) → cond p (rowAt (length (reverse (take m ls)))) (newestCode s c (reverse (take m ls))) ≤ k
+          → ((j : ℕ) → newestCode s c (reverse (take m ls)) ≤ j → linksFrom l s c j (newestCode s c (reverse (take m ls))) ≡ only (isLink s c) (reverse (take m ls)))
+          → linksFrom l s c k (cond p (rowAt (length (reverse (take m ls)))) (newestCode s c (reverse (take m ls)))) ≡ cond p (x ∷ only (isLink s c) (reverse (take m ls))) (only (isLink s c) (reverse (take m ls)))
+      go x e false f k h below = below k h
+      go x e true f zero h below = absurd (omega arith)
+      go x e true f (suc k) h below =
+          let small-row : m < linkLimit = omega (arith, few) in
+          let before : newestCode s c (reverse (take m ls)) < rowAt (length (reverse (take m ls))) = newest-before s c (reverse (take m ls)) in
+          rw (count, goes (rowAt m) (omega arith) (omega arith), link-read m x e small-row f, next-read m x e small-row f count, below k (omega arith))
 
-  pub walked-all : linksFrom l s c linkLimit (newestCode s c (reverse ls)) ≡ linksFor ls s c
+  pub walked-all : linksFrom l s c (newestCode s c (reverse ls)) (newestCode s c (reverse ls)) ≡ linksFor ls s c
   unfolding linksFor
-  walked-all = subst (λ (m : List Link). linksFrom l s c linkLimit (newestCode s c (reverse m)) ≡ only (isLink s c) (reverse m)) (all-rows ls) (walked (length ls) linkLimit few (omega arith))
+  walked-all =
+      subst (λ (m : List Link). linksFrom l s c (newestCode s c (reverse m)) (newestCode s c (reverse m)) ≡ only (isLink s c) (reverse m)) (all-rows ls)
+      (walked (length ls) (newestCode s c (reverse (take (length ls) ls))) (omega arith) (omega arith))

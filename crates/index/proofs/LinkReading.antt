@@ -1,5 +1,5 @@
--- A search of the links that a list of numbers has from a code on is the search of its definitions; and searches of the links of a day.
-use Prim.Native.Nat.{ℕ, zero, suc, _+_, _-_, _≤_}
+-- A search of the links that a list of numbers has from a place on is the search of its definitions; and searches of the links of a day.
+use Prim.Native.Nat.{ℕ, zero, suc, _+_, _≤_, _<_}
 use mathlib.Core.Path.{_≡_, refl, sym, ap, _∙_}
 use mathlib.Core.Logic.{_≢_}
 use mathlib.Core.Bool.{Bool, true, false, not, _&&_, _||_, cond}
@@ -10,101 +10,105 @@ use lib.Dec.{eqb, ltb, leb}
 use borrow.Author.Tests.{ne-eqb}
 use Rattle.rules.specs.declared.Link.{Link}
 use Rattle.rules.specs.Tests.{any, find, only}
-use Rattle.rules.specs.Directory.{linkLimit, covers}
+use Rattle.rules.specs.Directory.{covers}
 use Rattle.rules.specs.Entries.{hasDayIn}
-use Rattle.rules.proofs.Basics.{equal-tests, and-both, and-true, or-none, or-false, eqb-not, eqb-false, ltb-not, ltb-false, leb-is, leb-true}
+use Rattle.rules.proofs.Basics.{equal-tests, clash, and-both, and-true, or-none, or-false, or-right, eqb-not, eqb-false, ltb-is, ltb-not, ltb-true, ltb-false, leb-is, leb-true}
 use Rattle.index.specs.declared.links.Wanted.{Wanted}
 use Rattle.index.specs.declared.links.Wanted.the-variants.{Any, Issuers, Defaults, Towards}
-use Rattle.index.specs.Index.{newestAt, linkAt}
-use Rattle.index.specs.Asked.{read, linkIn, endsAt, leads, linksFrom, linksAt, linksOn}
+use Rattle.index.specs.Index.{newestAt, lastRow, numberAt}
+use Rattle.index.specs.Asked.{read, linkIn, endsAt, olderAt, leads, linksFrom, linksAt, linksOn}
 use Rattle.index.specs.Found.{wants, codeFrom, foundIn, leadIn}
 
--- ---- from a code on
--- the link of a code
+-- ---- from a place on
+
+-- the link of a place, none for 0
 abbrev pub linkOf : List ℕ → ℕ → ℕ → ℕ → Option Link
-linkOf l s c zero = none
-linkOf l s c (suc n) = some (linkIn l s c n)
+linkOf l s c p = cond (eqb p 0) none (some (linkIn l s c p))
 
-pub link-of : (l : List ℕ) (s c code : ℕ) → code ≢ 0 → linkOf l s c code ≡ some (linkIn l s c (code - 1))
-link-of l s c zero n = absurd (n refl)
-link-of l s c (suc m) n = let link : suc m - 1 ≡ m = omega arith in rw link
+pub link-of : (l : List ℕ) (s c p : ℕ) → p ≢ 0 → linkOf l s c p ≡ some (linkIn l s c p)
+link-of l s c p n = rw (ne-eqb p 0 n)
 
--- where the list does not end, the code is that of a link
-pub goes-on : (code : ℕ) → endsAt code ≡ false → (1 ≤ code) × (code ≤ linkLimit)
-goes-on code e =
-    let h = or-none (eqb code 0) (ltb linkLimit code) e in
-    let n : code ≢ 0 = eqb-not code 0 (h .0) in
-    (omega arith, ltb-not linkLimit code (h .1))
+-- where the list does not end, a link may begin
+pub goes-on : (p : ℕ) → endsAt p ≡ false → (1 ≤ p) × (p ≤ lastRow)
+goes-on p e =
+    let h = or-none (eqb p 0) (ltb lastRow p) e in
+    let n : p ≢ 0 = eqb-not p 0 (h .0) in
+    (omega arith, ltb-not lastRow p (h .1))
 
-pub goes : (code : ℕ) → 1 ≤ code → code ≤ linkLimit → endsAt code ≡ false
-goes code a b = or-false (eqb code 0) (ltb linkLimit code) (eqb-false code 0 (λ e. omega arith)) (ltb-false linkLimit code b)
+pub goes : (p : ℕ) → 1 ≤ p → p ≤ lastRow → endsAt p ≡ false
+goes p a b = or-false (eqb p 0) (ltb lastRow p) (eqb-false p 0 (λ e. omega arith)) (ltb-false lastRow p b)
 
-module _ (l : List ℕ) (s c : ℕ) (p : Link → Bool) where
-  -- the link of the code that is found is the one that a search of the links finds
-  pub record Finds (ls : List Link) (code : ℕ) : Type 0 where
-    pub link : find p ls ≡ linkOf l s c code
-    pub there : any p ls ≡ not (eqb code 0)
-    pub small : code ≤ linkLimit
+pub ends : (p : ℕ) → lastRow < p → endsAt p ≡ true
+ends p h = or-right (eqb p 0) (ltb lastRow p) (ltb-true lastRow p h)
 
-  pub finds : (k code : ℕ) → Finds (linksFrom l s c k code) (codeFrom l s c p k code)
+-- the next older link stands before
+pub older-before : (l : List ℕ) (p : ℕ) → 1 ≤ p → olderAt l p < p
+older-before l p a = go (ltb (numberAt l (p + 0)) p) refl
+  where
+    go : (b : Bool) → ltb (numberAt l (p + 0)) p ≡ b → cond b (numberAt l (p + 0)) 0 < p
+    go true e = ltb-is (numberAt l (p + 0)) p e
+    go false e = a
+
+module _ (l : List ℕ) (s c : ℕ) (t : Link → Bool) where
+  -- the link at the place that is found is the one that a search of the links finds
+  pub record Finds (ls : List Link) (p : ℕ) : Type 0 where
+    pub link : find t ls ≡ linkOf l s c p
+    pub there : any t ls ≡ not (eqb p 0)
+    pub small : p ≤ lastRow
+
+  pub finds : (k p : ℕ) → Finds (linksFrom l s c k p) (codeFrom l s c t k p)
   unfolding linksFrom codeFrom
-  finds zero code = record { link = refl; there = refl; small = omega arith }
-  finds (suc k) code = go (endsAt code) refl (p (linkIn l s c (code - 1))) refl (linksFrom l s c k (read l (linkAt (code - 1) 0))) (codeFrom l s c p k (read l (linkAt (code - 1) 0))) (finds k (read l (linkAt (code - 1) 0)))
+  finds zero p = record { link = refl; there = refl; small = omega arith }
+  finds (suc k) p = go (endsAt p) refl (t (linkIn l s c p)) refl (linksFrom l s c k (olderAt l p)) (codeFrom l s c t k (olderAt l p)) (finds k (olderAt l p))
     where
-      go : (b : Bool) → endsAt code ≡ b → (h : Bool) → p (linkIn l s c (code - 1)) ≡ h → (older : List Link) (below : ℕ) → Finds older below
-          → Finds (cond b [] (linkIn l s c (code - 1) ∷ older)) (cond b 0 (cond h code below))
+      go : (b : Bool) → endsAt p ≡ b → (h : Bool) → t (linkIn l s c p) ≡ h → (older : List Link) (below : ℕ) → Finds older below
+          → Finds (cond b [] (linkIn l s c p ∷ older)) (cond b 0 (cond h p below))
       go true e h f older below F = record { link = refl; there = refl; small = omega arith }
       go false e true f older below F =
-          let g = goes-on code e in
+          let g = goes-on p e in
           record {
-            link = rw f (sym (link-of l s c code (λ z. omega (arith, g .0))));
-            there = rw (f, ne-eqb code 0 (λ z. omega (arith, g .0)));
+            link = rw f (sym (link-of l s c p (λ z. omega (arith, g .0))));
+            there = rw (f, ne-eqb p 0 (λ z. omega (arith, g .0)));
             small = g .1;
           }
       go false e false f older below F = record { link = rw f (F .link); there = rw f (F .there); small = F .small }
 
+  -- as many links as are enough
+  as-many : (k m p : ℕ) → p ≤ k → p ≤ m → codeFrom l s c t k p ≡ codeFrom l s c t m p
+  unfolding codeFrom
+  as-many zero zero p a b = refl
+  as-many zero (suc m) p a b = let z : p ≡ 0 = omega arith in rw z
+  as-many (suc k) zero p a b = let z : p ≡ 0 = omega arith in rw z
+  as-many (suc k) (suc m) p a b = go (endsAt p) refl (λ h. as-many k m (olderAt l p) (omega (arith, older-before l p (goes-on p h .0))) (omega (arith, older-before l p (goes-on p h .0))))
+    where
+      go : (e : Bool) → endsAt p ≡ e → (endsAt p ≡ false → codeFrom l s c t k (olderAt l p) ≡ codeFrom l s c t m (olderAt l p))
+          → cond e 0 (cond (t (linkIn l s c p)) p (codeFrom l s c t k (olderAt l p))) ≡ cond e 0 (cond (t (linkIn l s c p)) p (codeFrom l s c t m (olderAt l p)))
+      go true h below = refl
+      go false h below = rw (below h)
+
   -- one step of the search: the list ends, the link is the one, or the next older one is asked
-  pub code-end : (k code : ℕ) → endsAt code ≡ true → 0 ≡ codeFrom l s c p k code
+  pub code-end : (p : ℕ) → endsAt p ≡ true → 0 ≡ codeFrom l s c t p p
   unfolding codeFrom
-  code-end zero code e = refl
-  code-end (suc k) code e = rw e
+  code-end zero e = refl
+  code-end (suc p) e = rw e
 
-  pub code-hit : (k code : ℕ) → 1 ≤ k → endsAt code ≡ false → p (linkIn l s c (code - 1)) ≡ true → code ≡ codeFrom l s c p k code
+  pub code-hit : (p : ℕ) → endsAt p ≡ false → t (linkIn l s c p) ≡ true → p ≡ codeFrom l s c t p p
   unfolding codeFrom
-  code-hit zero code a e h = absurd (omega arith)
-  code-hit (suc k) code a e h = rw (e, h)
+  code-hit zero e h = refl
+  code-hit (suc p) e h = rw (e, h)
 
-  pub code-miss : (k code : ℕ) → 1 ≤ k → endsAt code ≡ false → p (linkIn l s c (code - 1)) ≡ false → codeFrom l s c p k code ≡ codeFrom l s c p (k - 1) (read l (linkAt (code - 1) 0))
+  pub code-miss : (p : ℕ) → endsAt p ≡ false → t (linkIn l s c p) ≡ false → codeFrom l s c t p p ≡ codeFrom l s c t (olderAt l p) (olderAt l p)
   unfolding codeFrom
-  code-miss zero code a e h = absurd (omega arith)
-  code-miss (suc k) code a e h = let fewer : suc k - 1 ≡ k = omega arith in rw (e, h, fewer)
-
-  pub code-over : (code : ℕ) → 0 ≡ codeFrom l s c p 0 code
-  unfolding codeFrom
-  code-over code = refl
+  code-miss zero e h = clash true refl e
+  code-miss (suc p) e h = rw (e, h) (as-many p (olderAt l (suc p)) (olderAt l (suc p)) (omega (arith, older-before l (suc p) (omega arith))) (omega arith))
 
 -- what is looked for does not depend on CSD and security
-pub wants-same : (w : Wanted) (l : List ℕ) (s c n : ℕ) → wants w (linkIn l s c n) ≡ wants w (linkIn l 0 0 n)
+pub wants-same : (w : Wanted) (l : List ℕ) (s c p : ℕ) → wants w (linkIn l s c p) ≡ wants w (linkIn l 0 0 p)
 unfolding linkIn
-wants-same Any l s c n = refl
-wants-same Issuers l s c n = refl
-wants-same Defaults l s c n = refl
-wants-same (Towards t) l s c n = refl
-
--- one link more
-pub links-step : (l : List ℕ) (s c k code : ℕ) → 1 ≤ k → endsAt code ≡ false → linksFrom l s c k code ≡ linkIn l s c (code - 1) ∷ linksFrom l s c (k - 1) (read l (linkAt (code - 1) 0))
-unfolding linksFrom
-links-step l s c zero code a e = absurd (omega arith)
-links-step l s c (suc k) code a e = let fewer : suc k - 1 ≡ k = omega arith in rw (e, fewer)
-
-pub links-end : (l : List ℕ) (s c k code : ℕ) → endsAt code ≡ true → linksFrom l s c k code ≡ []
-unfolding linksFrom
-links-end l s c zero code e = refl
-links-end l s c (suc k) code e = rw e
-
-pub links-over : (l : List ℕ) (s c code : ℕ) → linksFrom l s c 0 code ≡ []
-unfolding linksFrom
-links-over l s c code = refl
+wants-same Any l s c p = refl
+wants-same Issuers l s c p = refl
+wants-same Defaults l s c p = refl
+wants-same (Towards t) l s c p = refl
 
 -- ---- searches of the rows that pass a test
 module _ {A : Type 0} where
@@ -157,7 +161,7 @@ module _ (l : List ℕ) (s c day : ℕ) (w : Wanted) where
   of-the-day x = rw (on-the-day day x)
 
   search : Finds l s c (λ x. hasDayIn day day x && wants w x) (linksAt l s c) (foundIn l s c day day w)
-  search = finds l s c (λ x. hasDayIn day day x && wants w x) linkLimit (read l (newestAt s c))
+  search = finds l s c (λ x. hasDayIn day day x && wants w x) (read l (newestAt s c)) (read l (newestAt s c))
 
   pub find-on : find (λ x. covers day x && wants w x) (linksAt l s c) ≡ linkOf l s c (foundIn l s c day day w)
   find-on = find-alike (λ x. covers day x && wants w x) (λ x. hasDayIn day day x && wants w x) of-the-day (linksAt l s c) ∙ search .link
@@ -165,21 +169,21 @@ module _ (l : List ℕ) (s c day : ℕ) (w : Wanted) where
   pub find-among : find (wants w) (only (covers day) (linksAt l s c)) ≡ linkOf l s c (foundIn l s c day day w)
   find-among = find-only (covers day) (wants w) (linksAt l s c) ∙ find-on
 
-  pub small : foundIn l s c day day w ≤ linkLimit
+  pub small : foundIn l s c day day w ≤ lastRow
   small = search .small
 
 -- the issuer link or default link of a day
 module _ (l : List ℕ) (s c day : ℕ) where
   lead : Finds l s c (λ x. covers day x && leads x) (linksAt l s c) (leadIn l s c day)
-  lead = finds l s c (λ x. covers day x && leads x) linkLimit (read l (newestAt s c))
+  lead = finds l s c (λ x. covers day x && leads x) (read l (newestAt s c)) (read l (newestAt s c))
 
   pub lead-none : leadIn l s c day ≡ 0 → find leads (linksOn l day s c) ≡ none
   lead-none e = find-only (covers day) leads (linksAt l s c) ∙ (lead .link ∙ ap (linkOf l s c) e)
 
-  -- the code that is found is that of a link, and its link the one that leads
+  -- a link may begin at the place that is found, and it is the one that leads
   module _ (code : ℕ) (e : code ≡ leadIn l s c day) where
-    pub lead-small : code ≤ linkLimit
+    pub lead-small : code ≤ lastRow
     lead-small = rw e (lead .small)
 
-    pub lead-link : code ≢ 0 → find leads (linksOn l day s c) ≡ some (linkIn l s c (code - 1))
+    pub lead-link : code ≢ 0 → find leads (linksOn l day s c) ≡ some (linkIn l s c code)
     lead-link n = find-only (covers day) leads (linksAt l s c) ∙ rw e (lead .link ∙ link-of l s c (leadIn l s c day) (λ z. n (e ∙ z)))

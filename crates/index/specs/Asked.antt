@@ -12,7 +12,7 @@ use Rattle.rules.specs.declared.Directory.{Directory}
 use Rattle.rules.specs.Tests.{any, find, only}
 use Rattle.rules.specs.Directory.{rowsOf, rowsOn, covers, issues, defaults, pointsTo, csdLimit, securityLimit, accountLimit, pairLimit, linkLimit, noCsd, noAccount}
 use Rattle.rules.specs.Lookups.{Lookups, technicalOf, accountOf, ask}
-use Rattle.index.specs.Index.{Indexed, Place, csdCount, securityCount, accountCount, pairCount, linkCount, typeAt, homeAt, kindAt, mirrorAt, omnibusAt, investorAt, technicalAt, servedAt, newestAt, linkAt, linkNumbers, placeOf, numberAt}
+use Rattle.index.specs.Index.{Indexed, Place, csdCount, securityCount, accountCount, pairCount, linkCount, typeAt, homeAt, kindAt, mirrorAt, omnibusAt, investorAt, technicalAt, servedAt, newestAt, linkAt, linkNumbers, lastRow, placeOf, numberAt}
 
 -- the places that an index has
 abbrev pub has : Place → Bool
@@ -59,32 +59,36 @@ duoIs l a x =
 abbrev pub technicalBy : ℕ → ℕ
 technicalBy n = cond (ltb 0xff n) noCsd n
 
--- the link whose numbers stand at n, read as one of the CSD c for the security s
+-- the link whose numbers begin at the place p, read as one of the CSD c for the security s
 unfoldable pub linkIn : List ℕ → ℕ → ℕ → ℕ → Link
-linkIn l s c n =
+linkIn l s c p =
     record {
       security = s;
-      kind = read l (linkAt n 3);
+      kind = numberAt l (p + 3);
       csd = c;
-      technical = technicalBy (read l (linkAt n 5));
-      flag = read l (linkAt n 4);
-      account = read l (linkAt n 6);
-      first = read l (linkAt n 1);
-      last = read l (linkAt n 2);
+      technical = technicalBy (numberAt l (p + 5));
+      flag = numberAt l (p + 4);
+      account = numberAt l (p + 6);
+      first = numberAt l (p + 1);
+      last = numberAt l (p + 2);
     }
 
--- a list of links ends at this code: it is 0, or one more than the number of no link
+-- a list of links ends at this place: it is 0, or none where a link may begin
 abbrev pub endsAt : ℕ → Bool
-endsAt code = eqb code 0 || ltb linkLimit code
+endsAt p = eqb p 0 || ltb lastRow p
 
--- the links from a code on, each followed by the next older one; k of them at most
+-- where the next older link stands; it stands before this one
+abbrev pub olderAt : List ℕ → ℕ → ℕ
+olderAt l p = cond (ltb (numberAt l (p + 0)) p) (numberAt l (p + 0)) 0
+
+-- the links from a place on, each followed by the next older one; k of them at most
 unfoldable pub linksFrom : List ℕ → ℕ → ℕ → ℕ → ℕ → List Link
-linksFrom l s c zero code = []
-linksFrom l s c (suc k) code = cond (endsAt code) [] (linkIn l s c (code - 1) ∷ linksFrom l s c k (read l (linkAt (code - 1) 0)))
+linksFrom l s c zero p = []
+linksFrom l s c (suc k) p = cond (endsAt p) [] (linkIn l s c p ∷ linksFrom l s c k (olderAt l p))
 
 -- the links of the CSD for the security, newest first
 abbrev pub linksAt : List ℕ → ℕ → ℕ → List Link
-linksAt l s c = linksFrom l s c linkLimit (read l (newestAt s c))
+linksAt l s c = linksFrom l s c (read l (newestAt s c)) (read l (newestAt s c))
 
 -- an issuer link or a default link: on a day a CSD has one of them at most for a security
 abbrev pub leads : Link → Bool

@@ -2,10 +2,10 @@
 use mathlib.Core.Bool.{Bool, true, false, _&&_, cond}
 use mathlib.Core.List.{List}
 use mathlib.Core.Option.{Option, none, some}
-use Prim.Native.Nat.{ℕ, zero, suc, _-_}
+use Prim.Native.Nat.{ℕ, zero, suc}
 use Rattle.rules.specs.declared.Pair.{Pair}
 use Rattle.rules.specs.declared.Link.{Link}
-use Rattle.rules.specs.Directory.{linkLimit, covers, issues, defaults, pointsTo}
+use Rattle.rules.specs.Directory.{covers, issues, defaults, pointsTo}
 use Rattle.rules.specs.Entries.{hasDayIn, anyLink}
 use Rattle.index.specs.declared.lookups.PairFound.{PairFound}
 use Rattle.index.specs.declared.lookups.PairFound.the-variants.{Row, Missing}
@@ -13,8 +13,8 @@ use Rattle.index.specs.declared.links.Leading.{Leading}
 use Rattle.index.specs.declared.links.Leading.the-variants.{Issuer, To, Nowhere}
 use Rattle.index.specs.declared.links.Wanted.{Wanted}
 use Rattle.index.specs.declared.links.Wanted.the-variants.{Any, Issuers, Defaults, Towards}
-use Rattle.index.specs.Index.{newestAt, linkAt}
-use Rattle.index.specs.Asked.{read, linkIn, endsAt, leads}
+use Rattle.index.specs.Index.{newestAt}
+use Rattle.index.specs.Asked.{read, linkIn, endsAt, olderAt, leads}
 
 -- the pair's row, or that there is none
 unfoldable pub pairFound : Option Pair → PairFound
@@ -28,14 +28,18 @@ wants Issuers = issues
 wants Defaults = defaults
 wants (Towards t) = pointsTo t
 
--- one more than the number of the newest link from a code on that passes the test, 0 for none; k links at most
+-- where the newest link from a place on stands that passes the test, 0 for none; k links at most
 unfoldable pub codeFrom : List ℕ → ℕ → ℕ → (Link → Bool) → ℕ → ℕ → ℕ
-codeFrom l s c p zero code = 0
-codeFrom l s c p (suc k) code = cond (endsAt code) 0 (cond (p (linkIn l s c (code - 1))) code (codeFrom l s c p k (read l (linkAt (code - 1) 0))))
+codeFrom l s c t zero p = 0
+codeFrom l s c t (suc k) p = cond (endsAt p) 0 (cond (t (linkIn l s c p)) p (codeFrom l s c t k (olderAt l p)))
 
--- the newest link of the CSD for the security that is looked for and has a day from `first` to `last`
+-- where the newest link of the CSD for the security stands that passes the test
+abbrev pub foundBy : List ℕ → ℕ → ℕ → (Link → Bool) → ℕ
+foundBy l s c t = codeFrom l s c t (read l (newestAt s c)) (read l (newestAt s c))
+
+-- that is looked for and has a day from `first` to `last`
 abbrev pub foundIn : List ℕ → ℕ → ℕ → ℕ → ℕ → Wanted → ℕ
-foundIn l s c first last w = codeFrom l s c (λ x. hasDayIn first last x && wants w x) linkLimit (read l (newestAt s c))
+foundIn l s c first last w = foundBy l s c (λ x. hasDayIn first last x && wants w x)
 
 -- the day after a link's last, 0 for no link
 unfoldable pub dayAfter : Option Link → ℕ
@@ -50,4 +54,4 @@ leadingOf false (some t) = To t
 
 -- the issuer link or default link of a CSD for a security on a day
 abbrev pub leadIn : List ℕ → ℕ → ℕ → ℕ → ℕ
-leadIn l s c day = codeFrom l s c (λ x. covers day x && leads x) linkLimit (read l (newestAt s c))
+leadIn l s c day = foundBy l s c (λ x. covers day x && leads x)

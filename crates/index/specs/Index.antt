@@ -1,6 +1,6 @@
 -- The index of a directory: one number for each question that a chain, a booking or an entry asks of the tables. Assumes nothing.
 use mathlib.Core.Path.{_≡_}
-use Prim.Native.Nat.{ℕ, zero, suc, _+_, _*_, _<_}
+use Prim.Native.Nat.{ℕ, zero, suc, _+_, _-_, _*_, _<_}
 use mathlib.Core.Bool.{Bool, true, _&&_, cond}
 use mathlib.Core.List.{List, [], _∷_, reverse}
 use mathlib.Core.Option.{Option, none, some}
@@ -82,16 +82,59 @@ abbrev pub technicalCode : Option Pair → ℕ
 technicalCode none = 0
 technicalCode (some p) = p .technical
 
--- one more than the number of the newest link of the CSD for the security, 0 for none; the links stand newest first
-abbrev pub newestCode : ℕ → ℕ → List Link → ℕ
-newestCode s c [] = 0
-newestCode s c (x ∷ older) = cond (isLink s c x) (suc (length older)) (newestCode s c older)
-
--- how many numbers a link has: the next older link of its CSD for its security, its days, kind, flag, technical issuer and account
+-- how many numbers a link has: where the next older link of its CSD for its security stands, its days, kind, flag, technical issuer and account
 abbrev pub linkNumbers : ℕ
 linkNumbers = 7
 
--- number f of a link, where `next` is the code of the next older one
+-- where the regions of the index begin, one behind the other, after the five counts
+abbrev pub types : ℕ
+types = 5
+
+abbrev pub homes : ℕ
+homes = types + csdLimit
+
+abbrev pub kinds : ℕ
+kinds = homes + accountLimit
+
+abbrev pub mirrors : ℕ
+mirrors = kinds + accountLimit
+
+abbrev pub omnibuses : ℕ
+omnibuses = mirrors + accountLimit
+
+abbrev pub investors : ℕ
+investors = omnibuses + accountLimit
+
+abbrev pub technicals : ℕ
+technicals = investors + accountLimit
+
+abbrev pub served : ℕ
+served = technicals + accountLimit
+
+abbrev pub newest : ℕ
+newest = served + accountLimit * csdLimit
+
+abbrev pub links : ℕ
+links = newest + securityLimit * csdLimit
+
+-- how many numbers an index has
+abbrev pub indexSize : ℕ
+indexSize = links + linkLimit * linkNumbers
+
+-- where the numbers of link n begin
+abbrev pub rowAt : ℕ → ℕ
+rowAt n = links + n * linkNumbers
+
+-- where those of the last link begin that an index may have
+abbrev pub lastRow : ℕ
+lastRow = indexSize - linkNumbers
+
+-- where the newest link of the CSD for the security stands, 0 for none; the links are given newest first
+abbrev pub newestCode : ℕ → ℕ → List Link → ℕ
+newestCode s c [] = 0
+newestCode s c (x ∷ older) = cond (isLink s c x) (rowAt (length older)) (newestCode s c older)
+
+-- number f of a link, where the next older one stands at `next`
 abbrev pub numberOf : ℕ → Link → ℕ → ℕ
 numberOf next x zero = next
 numberOf next x (suc zero) = x .first
@@ -142,41 +185,6 @@ Inside (technicalAt a) = a < accountLimit
 Inside (servedAt t a) = (t < csdLimit) × (a < accountLimit)
 Inside (newestAt s c) = (s < securityLimit) × (c < csdLimit)
 Inside (linkAt n f) = (n < linkLimit) × (f < linkNumbers)
-
--- where the regions of the index begin, one behind the other, after the five counts
-abbrev pub types : ℕ
-types = 5
-
-abbrev pub homes : ℕ
-homes = types + csdLimit
-
-abbrev pub kinds : ℕ
-kinds = homes + accountLimit
-
-abbrev pub mirrors : ℕ
-mirrors = kinds + accountLimit
-
-abbrev pub omnibuses : ℕ
-omnibuses = mirrors + accountLimit
-
-abbrev pub investors : ℕ
-investors = omnibuses + accountLimit
-
-abbrev pub technicals : ℕ
-technicals = investors + accountLimit
-
-abbrev pub served : ℕ
-served = technicals + accountLimit
-
-abbrev pub newest : ℕ
-newest = served + accountLimit * csdLimit
-
-abbrev pub links : ℕ
-links = newest + securityLimit * csdLimit
-
--- how many numbers an index has
-abbrev pub indexSize : ℕ
-indexSize = links + linkLimit * linkNumbers
 
 -- the number at a place of a list, 0 behind the end of an index
 unfoldable pub numberAt : List ℕ → ℕ → ℕ

@@ -6,24 +6,22 @@ use crate::places::FLAG;
 use crate::places::INDEX;
 use crate::places::KIND;
 use crate::places::LAST;
-use crate::places::LINK_NUMBERS;
-use crate::places::LINK_ROWS;
+use crate::places::LAST_ROW;
 use crate::places::NEWEST;
 use crate::places::NEXT;
 use crate::places::TECHNICAL;
 use rules::CSDS;
-use rules::LINKS;
 use rules::Link;
 use rules::NO_ACCOUNT;
 use rules::NO_CSD;
 use rules::SECURITIES;
 ghost use mathlib.Core.Path.{_≡_};
 ghost use mathlib.Core.Bool.{_&&_};
-ghost use Prim.Native.Nat.{_<_};
-ghost use Rattle.rules.specs.Directory.{linkLimit, covers, pointsTo};
+ghost use Prim.Native.Nat.{_+_, _≤_, _<_};
+ghost use Rattle.rules.specs.Directory.{covers, pointsTo};
 ghost use Rattle.rules.specs.Entries.{hasDayIn, meets, defaultOn};
-ghost use Rattle.index.specs.Index.{newestAt, linkAt, linkNumbers};
-ghost use Rattle.index.specs.Asked.{read, technicalBy, linkIn, endsAt, leads, linksAt, asked, askedOn};
+ghost use Rattle.index.specs.Index.{newestAt, linkNumbers, lastRow, numberAt};
+ghost use Rattle.index.specs.Asked.{read, technicalBy, linkIn, olderAt, leads, linksAt, asked, askedOn};
 ghost use Rattle.index.specs.Found.{leadingOf, leadIn, wants, foundIn, dayAfter};
 
 // Where a CSD's links for a security lead by default: nowhere further for an issuer, else to a technical issuer, if there is a default link.
@@ -41,16 +39,16 @@ pub enum Wanted {
     Towards(u8),
 }
 
-// A number of a link.
+// A number of the link that stands there.
 fn number_at(index: &[u16; INDEX], link: u16, number: usize) -> u16
-    requires { ⌜ (link < linkLimit) × (number < linkNumbers) ⌝ }
-    ensures { λ r. ⌜ r ≡ read (now (index .entry)) (linkAt link number) ⌝ }
+    requires { ⌜ (link ≤ lastRow) × (number < linkNumbers) ⌝ }
+    ensures { λ r. ⌜ r ≡ numberAt (now (index .entry)) (link + number) ⌝ }
 {
-    index[LINK_ROWS + ((link as usize) * LINK_NUMBERS + number)]
+    index[(link as usize) + number]
 }
 
-// One more than the number of the newest link of the CSD for the security, 0 for none.
-fn newest_code(index: &[u16; INDEX], security: u8, csd: u8) -> u16
+// Where the newest link of the CSD for the security stands, 0 for none.
+fn newest_link(index: &[u16; INDEX], security: u8, csd: u8) -> u16
     ensures { λ r. ⌜ r ≡ read (now (index .entry)) (newestAt security csd) ⌝ }
 {
     let s = security as usize;
@@ -64,17 +62,19 @@ fn newest_code(index: &[u16; INDEX], security: u8, csd: u8) -> u16
     index[NEWEST + (s * CSDS + c)]
 }
 
-// Whether the list ends at the code: it is 0, or that of no link.
-fn is_end(code: u16) -> bool
-    ensures { λ r. ⌜ r ≡ endsAt code ⌝ }
+// Where the next older link stands, which is before this one; 0 for none.
+fn older_link(index: &[u16; INDEX], link: u16) -> u16
+    requires { ⌜ link ≤ lastRow ⌝ }
+    ensures { λ r. ⌜ r ≡ olderAt (now (index .entry)) link ⌝ }
 {
-    (code == 0) | ((LINKS as u16) < code)
+    let next = number_at(index, link, NEXT);
+    if next < link { next } else { 0 }
 }
 
 // The technical issuer of a link, hex FF beyond the bytes.
 fn technical_of(index: &[u16; INDEX], link: u16) -> u8
-    requires { ⌜ link < linkLimit ⌝ }
-    ensures { λ r. ⌜ r ≡ technicalBy (read (now (index .entry)) (linkAt link 5)) ⌝ }
+    requires { ⌜ link ≤ lastRow ⌝ }
+    ensures { λ r. ⌜ r ≡ technicalBy (numberAt (now (index .entry)) (link + 5)) ⌝ }
 {
     let number = number_at(index, link, TECHNICAL);
     if 0xff < number {
@@ -85,7 +85,7 @@ fn technical_of(index: &[u16; INDEX], link: u16) -> u8
 
 // Whether the link is valid on the day; both ends are included.
 fn is_valid(index: &[u16; INDEX], link: u16, day: u16) -> bool
-    requires { ⌜ link < linkLimit ⌝ }
+    requires { ⌜ link ≤ lastRow ⌝ }
     ensures { λ r. ⌜ r ≡ covers day (linkIn (now (index .entry)) 0 0 link) ⌝ }
 {
     (number_at(index, link, FIRST) <= day) & (day <= number_at(index, link, LAST))
@@ -93,7 +93,7 @@ fn is_valid(index: &[u16; INDEX], link: u16, day: u16) -> bool
 
 // Whether the link has a day among these.
 fn has_day_in(index: &[u16; INDEX], link: u16, first: u16, last: u16) -> bool
-    requires { ⌜ link < linkLimit ⌝ }
+    requires { ⌜ link ≤ lastRow ⌝ }
     ensures { λ r. ⌜ r ≡ hasDayIn first last (linkIn (now (index .entry)) 0 0 link) ⌝ }
 {
     let begins = number_at(index, link, FIRST);
@@ -103,7 +103,7 @@ fn has_day_in(index: &[u16; INDEX], link: u16, first: u16, last: u16) -> bool
 
 // Whether it is one of those looked for.
 fn is_wanted(index: &[u16; INDEX], link: u16, wanted: Wanted) -> bool
-    requires { ⌜ link < linkLimit ⌝ }
+    requires { ⌜ link ≤ lastRow ⌝ }
     ensures { λ r. ⌜ r ≡ wants wanted (linkIn (now (index .entry)) 0 0 link) ⌝ }
 {
     let kind = number_at(index, link, KIND);
@@ -117,13 +117,13 @@ fn is_wanted(index: &[u16; INDEX], link: u16, wanted: Wanted) -> bool
 
 // Both.
 fn is_found(index: &[u16; INDEX], link: u16, first: u16, last: u16, wanted: Wanted) -> bool
-    requires { ⌜ link < linkLimit ⌝ }
+    requires { ⌜ link ≤ lastRow ⌝ }
     ensures { λ r. ⌜ r ≡ (hasDayIn first last (linkIn (now (index .entry)) 0 0 link) && wants wanted (linkIn (now (index .entry)) 0 0 link)) ⌝ }
 {
     has_day_in(index, link, first, last) & is_wanted(index, link, wanted)
 }
 
-// One more than the number of the newest link of the CSD for the security that is looked for and has a day among these, 0 for none.
+// Where the newest link of the CSD for the security stands that is looked for and has a day among these, 0 for none.
 fn find_link(
     index: &[u16; INDEX],
     security: u8,
@@ -134,17 +134,15 @@ fn find_link(
 ) -> u16
     ensures { λ r. ⌜ r ≡ foundIn (now (index .entry)) security csd first last wanted ⌝ }
 {
-    let mut code = newest_code(index, security, csd);
-    let mut left = LINKS;
-    while left != 0 {
-        if is_end(code) {
-            return 0;
+    let mut link = newest_link(index, security, csd);
+    if LAST_ROW < link {
+        return 0;
+    }
+    while link != 0 {
+        if is_found(index, link, first, last, wanted) {
+            return link;
         }
-        if is_found(index, code - 1, first, last, wanted) {
-            return code;
-        }
-        code = number_at(index, code - 1, NEXT);
-        left -= 1;
+        link = older_link(index, link);
     }
     0
 }
@@ -160,16 +158,16 @@ pub fn meets_link(index: &[u16; INDEX], row: Link, wanted: Wanted) -> bool
 pub fn day_after_default(index: &[u16; INDEX], security: u8, csd: u8, day: u16) -> u32
     ensures { λ r. ⌜ r ≡ dayAfter (defaultOn (linksAt (now (index .entry)) security csd) day) ⌝ }
 {
-    let code = find_link(index, security, csd, day, day, Wanted::Defaults);
-    if code == 0 {
+    let link = find_link(index, security, csd, day, day, Wanted::Defaults);
+    if link == 0 {
         return 0;
     }
-    (number_at(index, code - 1, LAST) as u32) + 1
+    (number_at(index, link, LAST) as u32) + 1
 }
 
 // Whether the link is an issuer link or a default link on the day.
 fn leads_on(index: &[u16; INDEX], link: u16, day: u16) -> bool
-    requires { ⌜ link < linkLimit ⌝ }
+    requires { ⌜ link ≤ lastRow ⌝ }
     ensures { λ r. ⌜ r ≡ (covers day (linkIn (now (index .entry)) 0 0 link) && leads (linkIn (now (index .entry)) 0 0 link)) ⌝ }
 {
     if !is_valid(index, link, day) {
@@ -181,7 +179,7 @@ fn leads_on(index: &[u16; INDEX], link: u16, day: u16) -> bool
 
 // Whether the link is an investor link to the technical issuer on the day.
 fn points_on(index: &[u16; INDEX], link: u16, technical: u8, day: u16) -> bool
-    requires { ⌜ link < linkLimit ⌝ }
+    requires { ⌜ link ≤ lastRow ⌝ }
     ensures { λ r. ⌜ r ≡ (covers day (linkIn (now (index .entry)) 0 0 link) && pointsTo technical (linkIn (now (index .entry)) 0 0 link)) ⌝ }
 {
     if !is_valid(index, link, day) {
@@ -190,21 +188,19 @@ fn points_on(index: &[u16; INDEX], link: u16, technical: u8, day: u16) -> bool
     (number_at(index, link, KIND) == 1) & (technical_of(index, link) == technical)
 }
 
-// One more than the number of the CSD's issuer link or default link for the security on the day, 0 for none.
-fn lead_code(index: &[u16; INDEX], security: u8, csd: u8, day: u16) -> u16
+// Where the CSD's issuer link or default link for the security on the day stands, 0 for none.
+fn lead_link(index: &[u16; INDEX], security: u8, csd: u8, day: u16) -> u16
     ensures { λ r. ⌜ r ≡ leadIn (now (index .entry)) security csd day ⌝ }
 {
-    let mut code = newest_code(index, security, csd);
-    let mut left = LINKS;
-    while left != 0 {
-        if is_end(code) {
-            return 0;
+    let mut link = newest_link(index, security, csd);
+    if LAST_ROW < link {
+        return 0;
+    }
+    while link != 0 {
+        if leads_on(index, link, day) {
+            return link;
         }
-        if leads_on(index, code - 1, day) {
-            return code;
-        }
-        code = number_at(index, code - 1, NEXT);
-        left -= 1;
+        link = older_link(index, link);
     }
     0
 }
@@ -213,45 +209,43 @@ fn lead_code(index: &[u16; INDEX], security: u8, csd: u8, day: u16) -> u16
 pub fn leading_at(index: &[u16; INDEX], security: u8, csd: u8, day: u16) -> Leading
     ensures { λ r. ⌜ r ≡ leadingOf (askedOn (now (index .entry)) day .issuer security csd) (askedOn (now (index .entry)) day .onward security csd) ⌝ }
 {
-    let code = lead_code(index, security, csd, day);
-    if code == 0 {
+    let link = lead_link(index, security, csd, day);
+    if link == 0 {
         return Leading::Nowhere;
     }
-    if number_at(index, code - 1, KIND) == 0 {
+    if number_at(index, link, KIND) == 0 {
         return Leading::Issuer;
     }
-    Leading::To(technical_of(index, code - 1))
+    Leading::To(technical_of(index, link))
 }
 
 // The issuance account of the CSD's issuer link for the security on the day, hex FFFF where it has none.
 pub fn issuance_of(index: &[u16; INDEX], security: u8, csd: u8, day: u16) -> u16
     ensures { λ r. ⌜ r ≡ askedOn (now (index .entry)) day .issuing security csd ⌝ }
 {
-    let code = lead_code(index, security, csd, day);
-    if code == 0 {
+    let link = lead_link(index, security, csd, day);
+    if link == 0 {
         return NO_ACCOUNT;
     }
-    if number_at(index, code - 1, KIND) != 0 {
+    if number_at(index, link, KIND) != 0 {
         return NO_ACCOUNT;
     }
-    number_at(index, code - 1, ACCOUNT)
+    number_at(index, link, ACCOUNT)
 }
 
 // An investor link on the day, "default or alternative", to this technical issuer.
 pub fn has_link_to(index: &[u16; INDEX], security: u8, csd: u8, technical: u8, day: u16) -> bool
     ensures { λ r. ⌜ r ≡ askedOn (now (index .entry)) day .linked security csd technical ⌝ }
 {
-    let mut code = newest_code(index, security, csd);
-    let mut left = LINKS;
-    while left != 0 {
-        if is_end(code) {
-            return false;
-        }
-        if points_on(index, code - 1, technical, day) {
+    let mut link = newest_link(index, security, csd);
+    if LAST_ROW < link {
+        return false;
+    }
+    while link != 0 {
+        if points_on(index, link, technical, day) {
             return true;
         }
-        code = number_at(index, code - 1, NEXT);
-        left -= 1;
+        link = older_link(index, link);
     }
     false
 }

@@ -37,13 +37,13 @@ pub const TECHNICALS: usize = INVESTORS + ACCOUNTS;
 // By account served and technical issuer: one more than the account in the investor's books, 0 for no row.
 pub const SERVED: usize = TECHNICALS + ACCOUNTS;
 
-// By security and CSD: one more than the number of their newest link, 0 for none.
+// By security and CSD: where their newest link stands, 0 for none.
 pub const NEWEST: usize = SERVED + ACCOUNTS * CSDS;
 
 // By link: its numbers.
 pub const LINK_ROWS: usize = NEWEST + SECURITIES * CSDS;
 
-// One more than the number of the next older link of the CSD for the security, 0 for none; the first and the last day; kind, flag, technical issuer and account.
+// Where the next older link of the CSD for the security stands, 0 for none; the first and the last day; kind, flag, technical issuer and account.
 pub const NEXT: usize = 0;
 
 pub const FIRST: usize = 1;
@@ -62,6 +62,9 @@ pub const LINK_NUMBERS: usize = 7;
 
 // How many numbers an index has.
 pub const INDEX: usize = LINK_ROWS + LINKS * LINK_NUMBERS;
+
+// Where the numbers of the last link begin that it may have.
+pub const LAST_ROW: u16 = (INDEX - LINK_NUMBERS) as u16;
 
 // The number at a place, 0 behind the end.
 pub fn entry(index: &[u16; INDEX], place: usize) -> u16

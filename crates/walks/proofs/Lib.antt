@@ -1,5 +1,6 @@
 pub mod Days
 pub mod Hops
+pub mod Directed
 pub mod Paths
 pub mod Meeting
 pub mod Walking

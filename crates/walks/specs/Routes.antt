@@ -1,8 +1,10 @@
 -- What the code's routes stand for.
 use Prim.Native.Nat.{ℕ, zero, suc, _-_, _≤_, _<_}
 use mathlib.Core.Path.{_≡_}
+use mathlib.Core.Bool.{Bool, _||_}
 use mathlib.Core.List.{List}
 use mathlib.Core.Option.{none, some}
+use lib.Dec.{eqb}
 use lib.ListN.{length, take, drop, getD}
 use Rattle.rules.specs.declared.Join.{Join}
 use Rattle.rules.specs.Lookups.{Lookups}
@@ -30,6 +32,10 @@ MeetAt (suc n) k w v =
 abbrev pub Meets : WalkFound → WalkFound → ℕ → Type 0
 Meets w v n =
     (k : Lookups) (s from to : ℕ) → walkOf w ≡ defaultWalk k s from → walkOf v ≡ defaultWalk k s to → MeetAt n k (walkOf w) (walkOf v)
+
+-- a walk directed to t may leave the default walk at the CSD c: it is the target, or has a link to it
+abbrev pub turns : Lookups → ℕ → ℕ → ℕ → Bool
+turns k s t c = eqb c t || k .linked s c t
 
 -- a refusal of 0 says that the sides join
 abbrev pub routeBy : ℕ → Join → List ℕ → List ℕ → Route

@@ -9,16 +9,20 @@ use crate::sides::without_last;
 use crate::walks::Walk;
 use crate::walks::default_walk;
 use crate::walks::directed_walk;
+use index::links::has_link_to;
 use index::places::INDEX;
 use rules::Join;
 use rules::Verdict;
 use rules::WalkEnd;
 ghost use mathlib.Core.Path.{_≡_};
+ghost use Rattle.rules.specs.Tests.{any};
+ghost use Rattle.rules.specs.Walks.{defaultWalk, directedWalk};
 ghost use Rattle.rules.specs.Chain.{judged, joinedBy, route};
 ghost use Rattle.rules.specs.Chain.Route.{sides};
 ghost use Rattle.index.specs.Asked.{askedOn};
 ghost use Rattle.walks.specs.Sides.{named};
-ghost use Rattle.walks.specs.Routes.{CommonEnd, Meets, routeOf};
+ghost use Rattle.walks.specs.Walks.{walkOf};
+ghost use Rattle.walks.specs.Routes.{CommonEnd, Meets, turns, routeOf};
 
 // How the sides join and the CSDs that they name; or the number that refuses the chain, 0 where there is one.
 pub struct RouteFound {
@@ -102,6 +106,50 @@ fn shared_csds(delivering: Walk, receiving: Walk) -> usize
     }
 }
 
+// Whether a directed walk leaves a default one at the CSD: it is the target, or has a link to it.
+fn turns_at(index: &[u16; INDEX], security: u8, target: u8, csd: u8, day: u16) -> bool
+    ensures { λ r. ⌜ r ≡ turns (askedOn (now (index .entry)) day) security target csd ⌝ }
+{
+    if csd == target {
+        return true;
+    }
+    has_link_to(index, security, csd, target, day)
+}
+
+// Whether it does at one of the CSDs of a side.
+fn turns_along(index: &[u16; INDEX], security: u8, target: u8, side: Side, day: u16) -> bool
+    ensures { λ r. ⌜ r ≡ any (turns (askedOn (now (index .entry)) day) security target) (named side) ⌝ }
+{
+    let csds = side.csds;
+    let n = length_of(side);
+    let mut i: usize = 0;
+    while i < n {
+        if turns_at(index, security, target, csds[i], day) {
+            return true;
+        }
+        i += 1;
+    }
+    false
+}
+
+// The directed walk from a CSD whose default walk is known: the same, unless it turns at one of its CSDs.
+fn directed_from(
+    index: &[u16; INDEX],
+    security: u8,
+    target: u8,
+    csd: u8,
+    walked: Walk,
+    day: u16,
+) -> Walk
+    requires { ⌜ walkOf walked ≡ defaultWalk (askedOn (now index) day) security csd ⌝ }
+    ensures { λ r. ⌜ walkOf r ≡ directedWalk (askedOn (now (index .entry)) day) security target csd ⌝ }
+{
+    if turns_along(index, security, target, walked.side, day) {
+        return directed_walk(index, security, target, csd, day);
+    }
+    walked
+}
+
 // The four cases of document 01 on the day, from the delivering CSD to the receiving one.
 pub fn route_of(index: &[u16; INDEX], security: u8, from: u8, to: u8, day: u16) -> RouteFound
     ensures { λ r. ⌜ routeOf r ≡ route (askedOn (now (index .entry)) day) security from to ⌝ }
@@ -119,12 +167,12 @@ pub fn route_of(index: &[u16; INDEX], security: u8, from: u8, to: u8, day: u16) 
             without_last(receiving.side, shared - 1),
         );
     }
-    let towards = directed_walk(index, security, to, from, day);
+    let towards = directed_from(index, security, to, from, delivering, day);
     let end = towards.end;
     if has_reached(to, end) {
         return joined(Join::Meeting, towards.side, alone(to));
     }
-    let back = directed_walk(index, security, from, to, day);
+    let back = directed_from(index, security, from, to, receiving, day);
     let end = back.end;
     if has_reached(from, end) {
         return joined(Join::Meeting, alone(from), back.side);

@@ -56,8 +56,8 @@ put-number-requires-6 c κs = search needs
 put-number-requires-7 : tie.Need-put-number-requires-7
 put-number-requires-7 c κs = search needs
 
-one-more-requires : tie.Need-one-more-requires
-one-more-requires c κs = search needs
+row-for-requires : tie.Need-row-for-requires
+row-for-requires c κs = search needs
 
 store-requires : tie.Need-store-requires
 store-requires c κs = search needs
@@ -80,7 +80,7 @@ returns c =
     c .count-on .ensures
     ∙ rw (
       cell .store .ensures,
-      cell .before .one-more .ensures,
+      cell .before .row-for .ensures,
       account .put-number7 .ensures,
       technical .put-number6 .ensures,
       flag .put-number5 .ensures,
@@ -113,7 +113,7 @@ add-link-spec =
     cast-put-number-3
     put-number-requires-6
     put-number-requires-7
-    one-more-requires
+    row-for-requires
     store-requires
     count-on-requires
     returns)

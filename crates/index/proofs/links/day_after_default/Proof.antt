@@ -3,7 +3,7 @@ use Prim.Native.Nat.{suc, _≤_}
 use mathlib.Core.Path.{sym, ap, _∙_}
 use native.Mathlib.Omega.{arith}
 use native.Mathlib.Numerals.{add-one}
-use Rattle.rules.specs.Directory.{linkLimit}
+use Rattle.index.specs.Index.{lastRow}
 use Rattle.index.specs.declared.links.Wanted.the-variants.{Defaults}
 use Rattle.index.specs.Asked.{linkIn}
 use Rattle.index.specs.Found.{dayAfter}
@@ -21,16 +21,13 @@ returns c =
     let a = c .before .before .args in
     sym (ap dayAfter (find-on (a .index .now) (a .security) (a .csd) (a .day) Defaults ∙ ap (linkOf (a .index .now) (a .security) (a .csd)) (sym (c .before .find-link .ensures) ∙ c .if1 .taken)))
 
-sub-number-at : tie.Need-sub-number-at
-sub-number-at c = search needs
-
--- the code that is found is that of a link
-small-code : (c : tie.Else1) → c .before .find-link .result ≤ linkLimit
-small-code c = let a = c .before .before .args in rw (c .before .find-link .ensures) (small (a .index .now) (a .security) (a .csd) (a .day) Defaults)
+-- a link may begin at the place that is found
+small-place : (c : tie.Else1) → c .before .find-link .result ≤ lastRow
+small-place c = let a = c .before .before .args in rw (c .before .find-link .ensures) (small (a .index .now) (a .security) (a .csd) (a .day) Defaults)
 
 number-at-requires : tie.Need-number-at-requires
 number-at-requires c κs =
-    (omega (arith, small-code c), omega arith)
+    (omega (arith, small-place c), omega arith)
 
 cast-result : tie.Need-cast-result
 cast-result c = search needs
@@ -47,4 +44,4 @@ returns-2 c =
     ∙ link-of (a .index .now) (a .security) (a .csd) (c .before .before .find-link .result) (c .before .if1 .left)))))
 
 pub day-after-default-spec : {M : Type 1} → statement M
-day-after-default-spec = tie.close (tie.spec find-link-requires returns sub-number-at number-at-requires cast-result add-result returns-2)
+day-after-default-spec = tie.close (tie.spec find-link-requires returns number-at-requires cast-result add-result returns-2)

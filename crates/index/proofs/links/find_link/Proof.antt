@@ -1,18 +1,16 @@
--- The loop's invariant: what is found from the newest link on is what is found from this one on, by as many links as are left.
-use Prim.Native.Nat.{ℕ, _-_, _≤_}
-use mathlib.Core.Path.{_≡_, sym, _∙_}
+-- The loop's invariant: what is found from the newest link on is what is found from this one on.
+use Prim.Native.Nat.{ℕ, _≤_}
+use mathlib.Core.Path.{_≡_, refl, sym, _∙_}
 use mathlib.Core.Bool.{Bool, _&&_}
 use native.Mathlib.Omega.{arith}
 use Rattle.rules.specs.declared.Link.{Link}
-use Rattle.rules.specs.Directory.{linkLimit}
 use Rattle.rules.specs.Entries.{hasDayIn}
 use Rattle.index.specs.declared.links.Wanted.{Wanted}
-use Rattle.index.specs.Index.{newestAt}
-use Rattle.index.specs.Asked.{read}
 use Rattle.index.specs.Found.{wants}
-use Rattle.index.proofs.LinkReading.{wants-same, goes-on, code-end, code-hit, code-miss, code-over}
+use Rattle.index.proofs.LinkReading.{wants-same, goes, ends, older-before, code-end, code-hit, code-miss}
+use Rattle.index.specs.Index.{lastRow}
 use Rattle.index.specs.Asked.{linkIn}
-use Rattle.index.specs.Found.{codeFrom}
+use Rattle.index.specs.Found.{codeFrom, foundBy}
 use borrow.Author.Needs.{needs}
 use Rattle.index.proofs.links.find_link.Statement.{statement}
 use Rattle.index.proofs.links.find_link.Tie as tie
@@ -22,78 +20,62 @@ abbrev test : ℕ → ℕ → Wanted → Link → Bool
 test first last wanted x = hasDayIn first last x && wants wanted x
 
 abbrev Inv-loop : tie.InvT-loop
-Inv-loop index security csd first last wanted code₀ left₀ code left =
-    codeFrom index security csd (test first last wanted) linkLimit (read index (newestAt security csd)) ≡ codeFrom index security csd (test first last wanted) left code
+Inv-loop index security csd first last wanted link₀ link =
+    (link ≤ lastRow) × (foundBy index security csd (test first last wanted) ≡ codeFrom index security csd (test first last wanted) link link)
 
 abbrev μ-loop : tie.MeasureT-loop
-μ-loop index security csd first last wanted code₀ left₀ code left = left
+μ-loop index security csd first last wanted link₀ link = link
 
--- where the list does not end, the code is that of a link
-going : (c : tie.Else1 Inv-loop μ-loop) → let l = c .before .before .before in (1 ≤ l .loop .code) × (l .loop .code ≤ linkLimit)
-going c = goes-on (c .before .before .before .loop .code) (sym (c .before .is-end .ensures) ∙ c .if1 .left)
-
-newest-code-requires : tie.Need-newest-code-requires Inv-loop μ-loop
-newest-code-requires c κs = search needs
-
-loop-holds : tie.Need-loop-holds Inv-loop μ-loop
-loop-holds c = rw (← c .newest-code .ensures)
-
-is-end-requires : tie.Need-is-end-requires Inv-loop μ-loop
-is-end-requires c κs = search needs
+newest-link-requires : tie.Need-newest-link-requires Inv-loop μ-loop
+newest-link-requires c κs = search needs
 
 returns : tie.Need-returns Inv-loop μ-loop
 returns c =
-    let l = c .before .before .before in
-    let a = l .before .before .args in
-    code-end (a .index .now) (a .security) (a .csd) (test (a .first) (a .last) (a .wanted)) (l .loop .left) (l .loop .code) (sym (c .before .is-end .ensures) ∙ c .if1 .taken)
-    ∙ sym (l .loop .inv)
+    let k = c .before in
+    let a = k .before .args in
+    rw (← k .newest-link .ensures) (code-end (a .index .now) (a .security) (a .csd) (test (a .first) (a .last) (a .wanted)) (k .newest-link .result) (ends (k .newest-link .result) (omega arith)))
 
-sub-is-found : tie.Need-sub-is-found Inv-loop μ-loop
-sub-is-found c = going c .0
+loop-holds : tie.Need-loop-holds Inv-loop μ-loop
+loop-holds c = (omega arith, rw (← c .before .newest-link .ensures))
 
 is-found-requires : tie.Need-is-found-requires Inv-loop μ-loop
-is-found-requires c κs = omega (arith, going c)
+is-found-requires c κs = c .before .loop .inv .0
 
 returns-2 : tie.Need-returns-2 Inv-loop μ-loop
 unfolding linkIn
 returns-2 c =
-    let e = c .before .before in
-    let l = e .before .before .before in
-    let a = l .before .before .args in
-    code-hit (a .index .now) (a .security) (a .csd) (test (a .first) (a .last) (a .wanted)) (l .loop .left) (l .loop .code) (omega arith) (sym (e .before .is-end .ensures) ∙ e .if1 .left)
-    (rw (wants-same (a .wanted) (a .index .now) (a .security) (a .csd) (l .loop .code - 1), ← c .before .is-found .ensures) (c .if2 .taken))
-    ∙ sym (l .loop .inv)
+    let l = c .before .before .before in
+    let a = l .before .before .before .args in
+    code-hit (a .index .now) (a .security) (a .csd) (test (a .first) (a .last) (a .wanted)) (l .loop .link) (goes (l .loop .link) (omega arith) (l .loop .inv .0)) (rw (wants-same (a .wanted) (a .index .now) (a .security) (a .csd) (l .loop .link), ← c .before .is-found .ensures) (c .if2 .taken))
+    ∙ sym (l .loop .inv .1)
 
-sub-number-at : tie.Need-sub-number-at Inv-loop μ-loop
-sub-number-at c = going (c .before .before) .0
-
-number-at-requires : tie.Need-number-at-requires Inv-loop μ-loop
-number-at-requires c κs = (omega (arith, going (c .before .before)), omega arith)
-
-sub-left : tie.Need-sub-left Inv-loop μ-loop
-sub-left c = omega arith
+older-link-requires : tie.Need-older-link-requires Inv-loop μ-loop
+older-link-requires c κs = c .before .before .before .loop .inv .0
 
 loop-less : tie.Need-loop-less Inv-loop μ-loop
-loop-less c = omega arith
+loop-less c =
+    let l = c .before .before .before .before in
+    let a = l .before .before .before .args in
+    rw (c .older-link .ensures) (older-before (a .index .now) (l .loop .link) (omega arith))
 
 loop-again : tie.Need-loop-again Inv-loop μ-loop
 unfolding linkIn
 loop-again c =
-    let e = c .before .before .before in
-    let l = e .before .before .before in
-    let a = l .before .before .args in
-    rw (c .number-at .ensures)
-    (l .loop .inv
-    ∙ code-miss (a .index .now) (a .security) (a .csd) (test (a .first) (a .last) (a .wanted)) (l .loop .left) (l .loop .code) (omega arith) (sym (e .before .is-end .ensures) ∙ e .if1 .left)
-    (rw (wants-same (a .wanted) (a .index .now) (a .security) (a .csd) (l .loop .code - 1), ← c .before .before .is-found .ensures) (c .before .if2 .left)))
+    let l = c .before .before .before .before in
+    let a = l .before .before .before .args in
+    rw (c .older-link .ensures) (
+      omega (arith, l .loop .inv .0, older-before (a .index .now) (l .loop .link) (omega arith)),
+      l .loop .inv .1
+          ∙ code-miss (a .index .now) (a .security) (a .csd) (test (a .first) (a .last) (a .wanted)) (l .loop .link) (goes (l .loop .link) (omega arith) (l .loop .inv .0))
+          (rw (wants-same (a .wanted) (a .index .now) (a .security) (a .csd) (l .loop .link), ← c .before .before .is-found .ensures) (c .before .if2 .left)),
+    )
 
 returns-3 : tie.Need-returns-3 Inv-loop μ-loop
 returns-3 c =
     let l = c .before in
-    let a = l .before .before .args in
-    let over : l .loop .left ≡ 0 = omega arith in
-    code-over (a .index .now) (a .security) (a .csd) (test (a .first) (a .last) (a .wanted)) (l .loop .code)
-    ∙ sym (rw over at (l .loop .inv))
+    let a = l .before .before .before .args in
+    let over : l .loop .link ≡ 0 = omega arith in
+    sym (l .loop .inv .1 ∙ rw over (sym (code-end (a .index .now) (a .security) (a .csd) (test (a .first) (a .last) (a .wanted)) 0 refl)))
 
 pub find-link-spec : {M : Type 1} → statement M
 find-link-spec =
@@ -101,16 +83,12 @@ find-link-spec =
     (tie.spec
     Inv-loop
     μ-loop
-    newest-code-requires
-    loop-holds
-    is-end-requires
+    newest-link-requires
     returns
-    sub-is-found
+    loop-holds
     is-found-requires
     returns-2
-    sub-number-at
-    number-at-requires
-    sub-left
+    older-link-requires
     loop-less
     loop-again
     returns-3)

@@ -1,20 +1,20 @@
--- The loop's invariant: what is found from the newest link on is what is found from this one on, by as many links as are left.
-use Prim.Native.Nat.{ℕ, _-_, _≤_}
-use mathlib.Core.Path.{_≡_, sym, ap, _∙_}
+-- The loop's invariant: what is found from the newest link on is what is found from this one on.
+use Prim.Native.Nat.{ℕ, _≤_}
+use mathlib.Core.Path.{_≡_, refl, sym, ap, _∙_}
 use mathlib.Core.Bool.{Bool, not, _&&_}
 use mathlib.Core.List.{List}
 use lib.Dec.{eqb}
 use borrow.Author.Tests.{ne-eqb}
 use native.Mathlib.Omega.{arith}
 use Rattle.rules.specs.declared.Link.{Link}
-use Rattle.rules.specs.Directory.{linkLimit}
 use Rattle.rules.specs.Tests.{any, only}
 use Rattle.rules.specs.Directory.{covers, pointsTo}
 use Rattle.index.specs.Index.{newestAt}
 use Rattle.index.specs.Asked.{read, linksAt, askedBy}
-use Rattle.index.proofs.LinkReading.{goes-on, finds, any-only, code-end, code-hit, code-miss, code-over}
+use Rattle.index.proofs.LinkReading.{goes, ends, older-before, finds, any-only, code-end, code-hit, code-miss}
+use Rattle.index.specs.Index.{lastRow}
 use Rattle.index.specs.Asked.{linkIn}
-use Rattle.index.specs.Found.{codeFrom}
+use Rattle.index.specs.Found.{codeFrom, foundBy}
 use borrow.Author.Needs.{needs}
 use Rattle.index.proofs.links.has_link_to.Statement.{statement}
 use Rattle.index.proofs.links.has_link_to.Tie as tie
@@ -23,89 +23,75 @@ use Rattle.index.proofs.links.has_link_to.Tie as tie
 abbrev test : ℕ → ℕ → Link → Bool
 test technical day x = covers day x && pointsTo technical x
 
--- a code that is not 0 is found
+-- a place that is not 0 is found
 abbrev found : ℕ → Bool
-found code = not (eqb code 0)
+found p = not (eqb p 0)
 
-told : (l : List ℕ) (s c t day : ℕ) → any (pointsTo t) (only (covers day) (linksAt l s c)) ≡ found (codeFrom l s c (test t day) linkLimit (read l (newestAt s c)))
-told l s c t day = any-only (covers day) (pointsTo t) (linksAt l s c) ∙ finds l s c (test t day) linkLimit (read l (newestAt s c)) .there
+told : (l : List ℕ) (s c t day : ℕ) → any (pointsTo t) (only (covers day) (linksAt l s c)) ≡ found (foundBy l s c (test t day))
+told l s c t day = any-only (covers day) (pointsTo t) (linksAt l s c) ∙ finds l s c (test t day) (read l (newestAt s c)) (read l (newestAt s c)) .there
 
 abbrev Inv-loop : tie.InvT-loop
-Inv-loop index security csd technical day code₀ left₀ code left =
-    codeFrom index security csd (test technical day) linkLimit (read index (newestAt security csd)) ≡ codeFrom index security csd (test technical day) left code
+Inv-loop index security csd technical day link₀ link =
+    (link ≤ lastRow) × (foundBy index security csd (test technical day) ≡ codeFrom index security csd (test technical day) link link)
 
 abbrev μ-loop : tie.MeasureT-loop
-μ-loop index security csd technical day code₀ left₀ code left = left
+μ-loop index security csd technical day link₀ link = link
 
--- where the list does not end, the code is that of a link
-going : (c : tie.Else1 Inv-loop μ-loop) → let l = c .before .before .before in (1 ≤ l .loop .code) × (l .loop .code ≤ linkLimit)
-going c = goes-on (c .before .before .before .loop .code) (sym (c .before .is-end .ensures) ∙ c .if1 .left)
-
-newest-code-requires : tie.Need-newest-code-requires Inv-loop μ-loop
-newest-code-requires c κs = search needs
-
-loop-holds : tie.Need-loop-holds Inv-loop μ-loop
-loop-holds c = rw (← c .newest-code .ensures)
-
-is-end-requires : tie.Need-is-end-requires Inv-loop μ-loop
-is-end-requires c κs = search needs
+newest-link-requires : tie.Need-newest-link-requires Inv-loop μ-loop
+newest-link-requires c κs = search needs
 
 returns : tie.Need-returns Inv-loop μ-loop
 unfolding askedBy
 returns c =
-    let l = c .before .before .before in
-    let a = l .before .before .args in
-    sym (told (a .index .now) (a .security) (a .csd) (a .technical) (a .day)
-    ∙ ap found (l .loop .inv ∙ sym (code-end (a .index .now) (a .security) (a .csd) (test (a .technical) (a .day)) (l .loop .left) (l .loop .code) (sym (c .before .is-end .ensures) ∙ c .if1 .taken))))
+    let k = c .before in
+    let a = k .before .args in
+    let none : foundBy (a .index .now) (a .security) (a .csd) (test (a .technical) (a .day)) ≡ 0 = rw (← k .newest-link .ensures) (sym (code-end (a .index .now) (a .security) (a .csd) (test (a .technical) (a .day)) (k .newest-link .result) (ends (k .newest-link .result) (omega arith)))) in
+    sym (told (a .index .now) (a .security) (a .csd) (a .technical) (a .day) ∙ ap found none)
 
-sub-points-on : tie.Need-sub-points-on Inv-loop μ-loop
-sub-points-on c = going c .0
+loop-holds : tie.Need-loop-holds Inv-loop μ-loop
+loop-holds c = (omega arith, rw (← c .before .newest-link .ensures))
 
 points-on-requires : tie.Need-points-on-requires Inv-loop μ-loop
-points-on-requires c κs = omega (arith, going c)
+points-on-requires c κs = c .before .loop .inv .0
 
 returns-2 : tie.Need-returns-2 Inv-loop μ-loop
 unfolding linkIn askedBy
 returns-2 c =
-    let e = c .before .before in
-    let l = e .before .before .before in
-    let a = l .before .before .args in
+    let l = c .before .before .before in
+    let a = l .before .before .before .args in
     sym (told (a .index .now) (a .security) (a .csd) (a .technical) (a .day)
-    ∙ (ap found (l .loop .inv ∙ sym (code-hit (a .index .now) (a .security) (a .csd) (test (a .technical) (a .day)) (l .loop .left) (l .loop .code) (omega arith) (sym (e .before .is-end .ensures) ∙ e .if1 .left)
-    (rw (← c .before .points-on .ensures) (c .if2 .taken))))
-    ∙ rw (ne-eqb (l .loop .code) 0 (λ z. omega (arith, going e .0)))))
+    ∙ (ap found (l .loop .inv .1 ∙ sym (code-hit (a .index .now) (a .security) (a .csd) (test (a .technical) (a .day)) (l .loop .link) (goes (l .loop .link) (omega arith) (l .loop .inv .0)) (rw (← c .before .points-on .ensures) (c .if2 .taken))))
+    ∙ rw (ne-eqb (l .loop .link) 0 (λ z. omega arith))))
 
-sub-number-at : tie.Need-sub-number-at Inv-loop μ-loop
-sub-number-at c = going (c .before .before) .0
-
-number-at-requires : tie.Need-number-at-requires Inv-loop μ-loop
-number-at-requires c κs = (omega (arith, going (c .before .before)), omega arith)
-
-sub-left : tie.Need-sub-left Inv-loop μ-loop
-sub-left c = omega arith
+older-link-requires : tie.Need-older-link-requires Inv-loop μ-loop
+older-link-requires c κs = c .before .before .before .loop .inv .0
 
 loop-less : tie.Need-loop-less Inv-loop μ-loop
-loop-less c = omega arith
+loop-less c =
+    let l = c .before .before .before .before in
+    let a = l .before .before .before .args in
+    rw (c .older-link .ensures) (older-before (a .index .now) (l .loop .link) (omega arith))
 
 loop-again : tie.Need-loop-again Inv-loop μ-loop
 unfolding linkIn
 loop-again c =
-    let e = c .before .before .before in
-    let l = e .before .before .before in
-    let a = l .before .before .args in
-    rw (c .number-at .ensures)
-    (l .loop .inv
-    ∙ code-miss (a .index .now) (a .security) (a .csd) (test (a .technical) (a .day)) (l .loop .left) (l .loop .code) (omega arith) (sym (e .before .is-end .ensures) ∙ e .if1 .left)
-    (rw (← c .before .before .points-on .ensures) (c .before .if2 .left)))
+    let l = c .before .before .before .before in
+    let a = l .before .before .before .args in
+    rw (c .older-link .ensures) (
+      omega (arith, l .loop .inv .0, older-before (a .index .now) (l .loop .link) (omega arith)),
+      l .loop .inv .1
+          ∙ code-miss (a .index .now) (a .security) (a .csd) (test (a .technical) (a .day)) (l .loop .link) (goes (l .loop .link) (omega arith) (l .loop .inv .0))
+          (rw (← c .before .before .points-on .ensures) (c .before .if2 .left)),
+    )
 
 returns-3 : tie.Need-returns-3 Inv-loop μ-loop
 unfolding askedBy
 returns-3 c =
     let l = c .before in
-    let a = l .before .before .args in
-    let over : l .loop .left ≡ 0 = omega arith in
-    sym (told (a .index .now) (a .security) (a .csd) (a .technical) (a .day)
-    ∙ ap found (rw over at (l .loop .inv) ∙ sym (code-over (a .index .now) (a .security) (a .csd) (test (a .technical) (a .day)) (l .loop .code))))
+    let a = l .before .before .before .args in
+    let over : l .loop .link ≡ 0 = omega arith in
+    let none : foundBy (a .index .now) (a .security) (a .csd) (test (a .technical) (a .day)) ≡ 0 = l .loop .inv .1 ∙ rw over (sym (code-end (a .index .now) (a .security) (a .csd) (test (a .technical) (a .day)) 0 refl)) in
+    sym (told (a .index .now) (a .security) (a .csd) (a .technical) (a .day) ∙ ap found none)
 
 pub has-link-to-spec : {M : Type 1} → statement M
 has-link-to-spec =
@@ -113,16 +99,12 @@ has-link-to-spec =
     (tie.spec
     Inv-loop
     μ-loop
-    newest-code-requires
-    loop-holds
-    is-end-requires
+    newest-link-requires
     returns
-    sub-points-on
+    loop-holds
     points-on-requires
     returns-2
-    sub-number-at
-    number-at-requires
-    sub-left
+    older-link-requires
     loop-less
     loop-again
     returns-3)

@@ -10,22 +10,19 @@ use borrow.Author.Needs.{needs}
 use Rattle.index.proofs.links.leading_at.Statement.{statement}
 use Rattle.index.proofs.links.leading_at.Tie as tie
 
-lead-code-requires : tie.Need-lead-code-requires
-lead-code-requires c κs = search needs
+lead-link-requires : tie.Need-lead-link-requires
+lead-link-requires c κs = search needs
 
 returns : tie.Need-returns
 unfolding askedBy leadingOf
 returns c =
     let a = c .before .before .args in
-    rw (lead-none (a .index .now) (a .security) (a .csd) (a .day) (sym (c .before .lead-code .ensures) ∙ c .if1 .taken))
-
-sub-number-at : tie.Need-sub-number-at
-sub-number-at c = search needs
+    rw (lead-none (a .index .now) (a .security) (a .csd) (a .day) (sym (c .before .lead-link .ensures) ∙ c .if1 .taken))
 
 number-at-requires : tie.Need-number-at-requires
 number-at-requires c κs =
     let a = c .before .before .args in
-    let s = lead-small (a .index .now) (a .security) (a .csd) (a .day) (c .before .lead-code .result) (c .before .lead-code .ensures) in
+    let s = lead-small (a .index .now) (a .security) (a .csd) (a .day) (c .before .lead-link .result) (c .before .lead-link .ensures) in
     (omega (arith, s), omega arith)
 
 returns-2 : tie.Need-returns-2
@@ -33,16 +30,13 @@ unfolding askedBy leadingOf linkIn
 returns-2 c =
     let k = c .before .before .before in
     let a = k .before .args in
-    rw (lead-link (a .index .now) (a .security) (a .csd) (a .day) (k .lead-code .result) (k .lead-code .ensures) (c .before .before .if1 .left), ← c .before .number-at .ensures, eq-eqb (c .before .number-at .result) 0 (c .if2 .taken))
-
-sub-technical-of : tie.Need-sub-technical-of
-sub-technical-of c = search needs
+    rw (lead-link (a .index .now) (a .security) (a .csd) (a .day) (k .lead-link .result) (k .lead-link .ensures) (c .before .before .if1 .left), ← c .before .number-at .ensures, eq-eqb (c .before .number-at .result) 0 (c .if2 .taken))
 
 technical-of-requires : tie.Need-technical-of-requires
 technical-of-requires c κs =
     let k = c .before .before .before in
     let a = k .before .args in
-    let s = lead-small (a .index .now) (a .security) (a .csd) (a .day) (k .lead-code .result) (k .lead-code .ensures) in
+    let s = lead-small (a .index .now) (a .security) (a .csd) (a .day) (k .lead-link .result) (k .lead-link .ensures) in
     omega (arith, s)
 
 returns-3 : tie.Need-returns-3
@@ -50,18 +44,16 @@ unfolding askedBy leadingOf linkIn
 returns-3 c =
     let k = c .before .before .before .before in
     let a = k .before .args in
-    rw (lead-link (a .index .now) (a .security) (a .csd) (a .day) (k .lead-code .result) (k .lead-code .ensures) (c .before .before .before .if1 .left), ← c .before .before .number-at .ensures, ne-eqb (c .before .before .number-at .result) 0 (c .before .if2 .left))
+    rw (lead-link (a .index .now) (a .security) (a .csd) (a .day) (k .lead-link .result) (k .lead-link .ensures) (c .before .before .before .if1 .left), ← c .before .before .number-at .ensures, ne-eqb (c .before .before .number-at .result) 0 (c .before .if2 .left))
     (ap To (c .technical-of .ensures))
 
 pub leading-at-spec : {M : Type 1} → statement M
 leading-at-spec =
     tie.close
     (tie.spec
-    lead-code-requires
+    lead-link-requires
     returns
-    sub-number-at
     number-at-requires
     returns-2
-    sub-technical-of
     technical-of-requires
     returns-3)

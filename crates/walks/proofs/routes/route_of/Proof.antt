@@ -55,8 +55,8 @@ returns-2 c =
     c .joined2 .ensures ∙ rw (c .before .before .without-last .ensures, c .before .without-last2 .ensures) (walks-meet (askedOn (a .index .now) (a .day)) (a .security) (a .from) (a .to)
     (u .before .before .before .if1 .left) (walkOf (w .result)) (walkOf (v .result)) (w .ensures) (v .ensures) _ (c .before .before .before .if2 .taken) meets)
 
-directed-walk-requires : tie.Need-directed-walk-requires
-directed-walk-requires c κs = search needs
+directed-from-requires : tie.Need-directed-from-requires
+directed-from-requires c κs = c .before .before .before .default-walk .ensures
 
 has-reached-requires : tie.Need-has-reached-requires
 has-reached-requires c κs = search needs
@@ -74,14 +74,14 @@ returns-3 c =
     let v = u .before .default-walk2 in
     let a = u .before .before .before .before .args in
     let meets = u .shared-csds .ensures (askedOn (a .index .now) (a .day)) (a .security) (a .from) (a .to) (w .ensures) (v .ensures) in
-    let x = c .before .before .before .before .directed-walk in
+    let x = c .before .before .before .before .directed-from in
     let apart = unmet (u .shared-csds .result) (askedOn (a .index .now) (a .day)) (walkOf (w .result)) (walkOf (v .result)) (c .before .before .before .before .before .if2 .left) meets in
     c .joined3 .ensures ∙ rw (c .before .alone3 .ensures) (reaches (askedOn (a .index .now) (a .day)) (a .security) (a .from) (a .to)
     (u .before .before .before .if1 .left) (walkOf (w .result)) (walkOf (v .result)) (w .ensures) (v .ensures) apart
     (walkOf (x .result)) (x .ensures) (sym (c .before .before .before .has-reached .ensures) ∙ c .before .before .if3 .taken))
 
-directed-walk-requires-2 : tie.Need-directed-walk-requires-2
-directed-walk-requires-2 c κs = search needs
+directed-from-requires-2 : tie.Need-directed-from-requires-2
+directed-from-requires-2 c κs = c .before .before .before .before .before .default-walk2 .ensures
 
 has-reached-requires-2 : tie.Need-has-reached-requires-2
 has-reached-requires-2 c κs = search needs
@@ -99,8 +99,8 @@ returns-4 c =
     let v = u .before .default-walk2 in
     let a = u .before .before .before .before .args in
     let meets = u .shared-csds .ensures (askedOn (a .index .now) (a .day)) (a .security) (a .from) (a .to) (w .ensures) (v .ensures) in
-    let x = c .before .before .before .before .before .before .before .directed-walk in
-    let y = c .before .before .before .before .directed-walk2 in
+    let x = c .before .before .before .before .before .before .before .directed-from in
+    let y = c .before .before .before .before .directed-from2 in
     let apart = unmet (u .shared-csds .result) (askedOn (a .index .now) (a .day)) (walkOf (w .result)) (walkOf (v .result)) (c .before .before .before .before .before .before .before .before .if2 .left) meets in
     c .joined4 .ensures ∙ rw (c .before .alone4 .ensures) (reaches-back (askedOn (a .index .now) (a .day)) (a .security) (a .from) (a .to)
     (u .before .before .before .if1 .left) (walkOf (w .result)) (walkOf (v .result)) (w .ensures) (v .ensures) apart
@@ -117,8 +117,8 @@ returns-5 c =
     let v = u .before .default-walk2 in
     let a = u .before .before .before .before .args in
     let meets = u .shared-csds .ensures (askedOn (a .index .now) (a .day)) (a .security) (a .from) (a .to) (w .ensures) (v .ensures) in
-    let x = c .before .before .before .before .before .before .directed-walk in
-    let y = c .before .before .before .directed-walk2 in
+    let x = c .before .before .before .before .before .before .directed-from in
+    let y = c .before .before .before .directed-from2 in
     let apart = unmet (u .shared-csds .result) (askedOn (a .index .now) (a .day)) (walkOf (w .result)) (walkOf (v .result)) (c .before .before .before .before .before .before .before .if2 .left) meets in
     c .by-ends .ensures ∙ ends-judged (askedOn (a .index .now) (a .day)) (a .security) (a .from) (a .to)
     (u .before .before .before .if1 .left) (walkOf (w .result)) (walkOf (v .result)) (w .ensures) (v .ensures) apart
@@ -142,12 +142,12 @@ route-of-spec =
     without-last-requires-2
     joined-requires-2
     returns-2
-    directed-walk-requires
+    directed-from-requires
     has-reached-requires
     alone-requires-3
     joined-requires-3
     returns-3
-    directed-walk-requires-2
+    directed-from-requires-2
     has-reached-requires-2
     alone-requires-4
     joined-requires-4

@@ -10,8 +10,8 @@ use Rattle.index.specs.Asked.{read}
 use Rattle.index.proofs.Read.{read-in}
 use Rattle.index.proofs.Standing.{number-at}
 use borrow.Author.Needs.{needs}
-use Rattle.index.proofs.links.newest_code.Statement.{statement}
-use Rattle.index.proofs.links.newest_code.Tie as tie
+use Rattle.index.proofs.links.newest_link.Statement.{statement}
+use Rattle.index.proofs.links.newest_link.Tie as tie
 
 returns : tie.Need-returns
 unfolding read
@@ -43,8 +43,8 @@ returns-3 c =
     sym (number-at (a .index .now) p (omega arith, omega arith))
     ∙ read-in (a .index .now) p (and-true (ltb (a .security) securityLimit) (ltb (a .csd) csdLimit) (lt-ltb (a .security) securityLimit (omega arith)) (lt-ltb (a .csd) csdLimit (omega arith)))
 
-pub newest-code-spec : {M : Type 1} → statement M
-newest-code-spec =
+pub newest-link-spec : {M : Type 1} → statement M
+newest-link-spec =
     tie.close
     (tie.spec
     returns
