@@ -41,6 +41,24 @@ fn rows_on_day(call: &Call, before: &Store) -> Rows {
     }
 }
 
+/// The new row of a call, and in which ways its answer is due.
+type Entered<T> = Option<(T, Vec<&'static str>)>;
+
+/// An entry is refused with another number where this way applies.
+fn refusing_entry<T: 'static>(
+    entered: fn(&Call, &Store, Answer) -> Entered<T>,
+    way: &'static str,
+    number: u8,
+) -> impl Mistake {
+    move |call: &Call, before: &Store, store: &mut Store, answer| match entered(call, before, answer) {
+        Some((_, due)) if due.contains(&way) => {
+            store.clone_from(before);
+            Answer::Refused(number)
+        }
+        _ => answer,
+    }
+}
+
 /// Both kinds of trial notice the mistake.
 fn is_caught(mistake: impl Fn(&Call, &Store, &mut Store, Answer) -> Answer + Copy) {
     let mut coverage = Coverage::default();
@@ -504,7 +522,7 @@ mod segregated {
     }
 
     /// The new row of a call, and in which ways its answer is due.
-    fn entered(call: &Call, before: &Store, answer: Answer) -> Option<(Pair, Vec<&'static str>)> {
+    fn entered(call: &Call, before: &Store, answer: Answer) -> Entered<Pair> {
         match (call, answer) {
             (Call::Command(Command::EnterPair(new)), Answer::Accepted | Answer::Refused(5..)) => {
                 Some((*new, pairing::due(&Rows::from(&before.directory), new).1))
@@ -528,13 +546,7 @@ mod segregated {
 
     /// A row is refused with another number where this way applies.
     fn refusing(way: &'static str, number: u8) -> impl Mistake {
-        move |call: &Call, before: &Store, store: &mut Store, answer| match entered(call, before, answer) {
-            Some((_, due)) if due.contains(&way) => {
-                store.clone_from(before);
-                Answer::Refused(number)
-            }
-            _ => answer,
-        }
+        refusing_entry(entered, way, number)
     }
 
     #[test]
@@ -782,7 +794,7 @@ mod days {
     }
 
     /// The new link of a call, and in which ways its answer is due.
-    fn entered(call: &Call, before: &Store, answer: Answer) -> Option<(Link, Vec<&'static str>)> {
+    fn entered(call: &Call, before: &Store, answer: Answer) -> Entered<Link> {
         match (call, answer) {
             (Call::Command(Command::EnterLink(new)), Answer::Accepted | Answer::Refused(5..)) => {
                 Some((*new, linking::due(&Rows::from(&before.directory), new).1))
@@ -806,13 +818,7 @@ mod days {
 
     /// A link is refused with another number where this way applies.
     fn refusing(way: &'static str, number: u8) -> impl Mistake {
-        move |call: &Call, before: &Store, store: &mut Store, answer| match entered(call, before, answer) {
-            Some((_, due)) if due.contains(&way) => {
-                store.clone_from(before);
-                Answer::Refused(number)
-            }
-            _ => answer,
-        }
+        refusing_entry(entered, way, number)
     }
 
     #[test]

@@ -64,8 +64,8 @@ fn judge_booking(
     book_refusal(units.short, unpaid, units.beyond | payment)
 }
 
-// 6 to 13 of the halves and their sides, 14 to 18 of their chain on the day, 20 to 22 of its booking; then it is booked and paid for. A step list of another length
-// is refused 3.
+// 6 to 13 of the halves and their sides, 14 to 18 of their chain on the day, 20 to 22 of its booking; then it is booked and paid for. A step list of another
+// length is refused 3.
 pub fn settle(
     index: &[u16; INDEX],
     positions: &mut [i64],

@@ -197,7 +197,8 @@ pub fn settle_reply(
     ensures { λ r. ⌜ (r ≡ replyOf (settlementOn directory (now (positions .entry)) (now (cash .entry)) (blanks lent) (ordered delivering receiving) day))
         × (now (positions .exit)
         ≡ settlementOn directory (now (positions .entry)) (now (cash .entry)) (blanks lent) (ordered delivering receiving) day .store .positions)
-        × (now (cash .exit) ≡ settlementOn directory (now (positions .entry)) (now (cash .entry)) (blanks lent) (ordered delivering receiving) day .store .cash) ⌝ }
+        × (now (cash .exit)
+        ≡ settlementOn directory (now (positions .entry)) (now (cash .entry)) (blanks lent) (ordered delivering receiving) day .store .cash) ⌝ }
 {
     settled(
         directory,

@@ -113,7 +113,8 @@ fn add_top(
     day: u16,
 ) -> usize
     requires { ⌜ count < sideLimit ⌝ }
-    ensures { λ r. ⌜ Adds (now (steps .entry)) count (topSteps (askedOn (now (index .entry)) day) security join from to debited credited) (now (steps .exit)) r ⌝ }
+    ensures { λ r. ⌜ Adds (now (steps .entry)) count
+        (topSteps (askedOn (now (index .entry)) day) security join from to debited credited) (now (steps .exit)) r ⌝ }
     ensures { λ r. ⌜ r ≤ sideLimit + 1 ⌝ }
 {
     match join {
@@ -193,7 +194,8 @@ pub(crate) fn steps_along(
     day: u16,
 ) -> Found
     requires { ⌜ length (now steps) ≡ stepNumbers ⌝ }
-    ensures { λ r. ⌜ FoundIn (now (steps .entry)) (now (steps .exit)) (along (askedOn (now (index .entry)) day) security delivering receiving (routeOf route)) r ⌝ }
+    ensures { λ r. ⌜ FoundIn (now (steps .entry)) (now (steps .exit))
+        (along (askedOn (now (index .entry)) day) security delivering receiving (routeOf route)) r ⌝ }
 {
     if route.refusal != 0 {
         return Found {

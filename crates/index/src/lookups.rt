@@ -1,5 +1,5 @@
-// Questions to an index, but for those to links. Each is answered for every list of numbers as specs/Asked says; where the list is the index of a directory, that is what
-// searching its tables would answer.
+// Questions to an index, but for those to links. Each is answered for every list of numbers as specs/Asked says; where the list is the index of a directory,
+// that is what searching its tables would answer.
 use crate::places::ACCOUNT_COUNT;
 use crate::places::HOMES;
 use crate::places::INDEX;

@@ -123,8 +123,10 @@ fn settle_sided(
     second: SidedHalf,
 ) -> Back
     requires { ⌜ lent ≤ size ⌝ }
-    ensures { λ r. ⌜ (r ≡ backFrom (settlementOn directory (now (positions .entry)) (now (cash .entry)) (take lent list) (sided first second) 0) (drop lent list))
-        × (now (positions .exit) ≡ settlementOn directory (now (positions .entry)) (now (cash .entry)) (take lent list) (sided first second) 0 .store .positions)
+    ensures { λ r. ⌜ (r
+        ≡ backFrom (settlementOn directory (now (positions .entry)) (now (cash .entry)) (take lent list) (sided first second) 0) (drop lent list))
+        × (now (positions .exit)
+        ≡ settlementOn directory (now (positions .entry)) (now (cash .entry)) (take lent list) (sided first second) 0 .store .positions)
         × (now (cash .exit) ≡ settlementOn directory (now (positions .entry)) (now (cash .entry)) (take lent list) (sided first second) 0 .store .cash) ⌝ }
 {
     let mut steps = list;

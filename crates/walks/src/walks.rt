@@ -88,7 +88,8 @@ fn walk_from(
     day: u16,
 ) -> usize
     requires { ⌜ (left ≤ sideLimit) × (length (now csds) ≡ sideLimit) ⌝ }
-    ensures { λ r. ⌜ WalksOn left (now (csds .entry)) (walk (hopOf (askedOn (now (index .entry)) day) security directed target) left csd) r (now (csds .exit)) ⌝ }
+    ensures { λ r. ⌜ WalksOn left (now (csds .entry))
+        (walk (hopOf (askedOn (now (index .entry)) day) security directed target) left csd) r (now (csds .exit)) ⌝ }
 {
     if left == 0 {
         return WAYS * SIDE + way_of(WalkEnd::TooLong);
