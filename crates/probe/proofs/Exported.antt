@@ -30,11 +30,13 @@ use Rattle.rules.proofs.Basics.{eqb-true, eqb-false, and-true, and-untrue}
 use Rattle.desk.proofs.Serving as Serving
 use Rattle.layout.specs.Layout.{countsLength, rowsLength, directoryIn, countsOf, bytesOf, bytesIn, bytesOfSteps, filled, withSteps, stepsPut}
 use Rattle.layout.proofs.Bytes.{fills, steps-fit}
-use Rattle.probe.specs.Codes.{misfit, codeOf, unitsCode, centsCode}
+use Rattle.codes.specs.Codes.{misfit, codeOf, unitsCode, centsCode}
 use Rattle.wire.specs.Operands.{halvesIn, dayIn}
-use Rattle.probe.specs.Exports.{fits, fitsSum, isEntry, isMove, isSettlement, isDerivation, width, callIn, lending, stepsLent, readConditions, enteredBy, chainOf}
+use Rattle.codes.specs.Read.{isEntry, isMove, width, readConditions}
+use Rattle.codes.proofs.Read.{cut-is, none-is}
+use Rattle.probe.specs.Exports.{fits, fitsSum, isSettlement, isDerivation, callIn, lending, stepsLent, enteredBy, chainOf}
 use Rattle.probe.specs.Exports.{enters, moves, settles, derives, unitsLeft, centsLeft, Enters, Moves, Settles, Derives}
-use Rattle.probe.proofs.Read.{cut-is, none-is, read-refused, read-passed, settlement-call, derivation-call}
+use Rattle.probe.proofs.Read.{read-refused, read-passed, settlement-call, derivation-call}
 use Rattle.probe.proofs.Moves.{Leaves}
 
 -- ---- tests

@@ -10,7 +10,6 @@ use mathlib.Core.Option.{Option, none, some}
 use lib.Dec.{eqb, leb, ltb}
 use lib.ListN.{length, take}
 use lib.Seq.{length-take-le}
-use borrow.Author.Tests.{lt-ltb, le-ltb}
 use Rattle.rules.specs.declared.Answer.the-variants.{Refused}
 use Rattle.rules.specs.declared.Step.{Step}
 use Rattle.rules.specs.Tests.{Condition, _when_, firstOf}
@@ -18,11 +17,10 @@ use Rattle.rules.specs.Calls.{Store, Call, settle, derive, outcome, lentSteps, 
 use Rattle.rules.specs.Stream.{widths, formerTag, widthOf, callOf}
 use Rattle.rules.proofs.Basics.{and-both, or-cases, eqb-is, leb-is, ltb-not, quiet}
 use Rattle.rules.proofs.Conditions.{first-before, first-after}
-use Rattle.wire.specs.declared.commands.Width.the-variants.{Bytes, NoCommand}
-use Rattle.wire.specs.Commands.{widthIn}
 use Rattle.wire.proofs.Widths.{width-is}
 use Rattle.wire.specs.Operands.{halvesIn, dayIn}
-use Rattle.probe.specs.Exports.{isEntry, isMove, isSettlement, isDerivation, asked, width, lending, readConditions, obeyed}
+use Rattle.codes.specs.Read.{isEntry, isMove, asked, width, readConditions}
+use Rattle.probe.specs.Exports.{isSettlement, isDerivation, lending, obeyed}
 
 -- ---- the two numbers
 
@@ -38,39 +36,22 @@ refused-by : (k : Call) (st : Store) (n : ℕ) → n ≢ 0 → outcome n k st �
 refused-by k st zero ne = absurd (ne refl)
 refused-by k st (suc n) ne = refl
 
-module _ (known : Bool) (tag : ℕ) (o : List ℕ) where
-  pub cut-is : known ≡ true → length o < width tag → 2 ≡ firstOf (readConditions known tag o)
-  cut-is e h = rw (e, lt-ltb (length o) (width tag) h)
+module _ (known : Bool) (tag : ℕ) (o : List ℕ) (n : ℕ) (e : n ≡ firstOf (readConditions known tag o)) where
+  pub known-is : n ≡ 0 → known ≡ true
+  known-is z = clear known (ltb (length o) (width tag)) (sym e ∙ z) .0
 
-  pub none-is : known ≡ true → width tag ≤ length o → 0 ≡ firstOf (readConditions known tag o)
-  none-is e h = rw (e, le-ltb (length o) (width tag) h)
+  pub whole-is : n ≡ 0 → width tag ≤ length o
+  whole-is z = ltb-not (length o) (width tag) (clear known (ltb (length o) (width tag)) (sym e ∙ z) .1)
 
-  module _ (n : ℕ) (e : n ≡ firstOf (readConditions known tag o)) where
-    pub known-is : n ≡ 0 → known ≡ true
-    known-is z = clear known (ltb (length o) (width tag)) (sym e ∙ z) .0
+  module _ (k : Call) (st : Store) where
+    pub read-refused : n ≢ 0 → obeyed known tag o k st ≡ record { answer = Refused n; store = st; steps = lentSteps k }
+    unfolding obeyed
+    read-refused ne =
+        ap (λ (m : ℕ). outcome m k st) (first-before (two (not known) (ltb (length o) (width tag))) (deskConditions k st) (λ z. ne (e ∙ z)) ∙ sym e) ∙ refused-by k st n ne
 
-    pub whole-is : n ≡ 0 → width tag ≤ length o
-    whole-is z = ltb-not (length o) (width tag) (clear known (ltb (length o) (width tag)) (sym e ∙ z) .1)
-
-    module _ (k : Call) (st : Store) where
-      pub read-refused : n ≢ 0 → obeyed known tag o k st ≡ record { answer = Refused n; store = st; steps = lentSteps k }
-      unfolding obeyed
-      read-refused ne =
-          ap (λ (m : ℕ). outcome m k st) (first-before (two (not known) (ltb (length o) (width tag))) (deskConditions k st) (λ z. ne (e ∙ z)) ∙ sym e) ∙ refused-by k st n ne
-
-      pub read-passed : n ≡ 0 → obeyed known tag o k st ≡ desk k st
-      unfolding obeyed desk
-      read-passed z = ap (λ (m : ℕ). outcome m k st) (first-after (two (not known) (ltb (length o) (width tag))) (deskConditions k st) (quiet (two (not known) (ltb (length o) (width tag))) refl (sym e ∙ z)))
-
--- ---- widths
-
-pub width-bytes : (x : Option ℕ) (w : ℕ) → Bytes w ≡ widthIn x → w ≡ asked x
-width-bytes none w e = let z : _≡_ {A = ℕ} 0 1 = cc in absurd (omega arith)
-width-bytes (some v) w e = cc
-
-pub width-none : (x : Option ℕ) → NoCommand ≡ widthIn x → 0 ≡ asked x
-width-none none e = refl
-width-none (some v) e = let z : _≡_ {A = ℕ} 0 1 = cc in absurd (omega arith)
+    pub read-passed : n ≡ 0 → obeyed known tag o k st ≡ desk k st
+    unfolding obeyed desk
+    read-passed z = ap (λ (m : ℕ). outcome m k st) (first-after (two (not known) (ltb (length o) (width tag))) (deskConditions k st) (quiet (two (not known) (ltb (length o) (width tag))) refl (sym e ∙ z)))
 
 -- ---- the bytes that an export knows
 

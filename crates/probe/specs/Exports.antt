@@ -2,10 +2,9 @@
 use Prim.Native.Nat.{ℕ, _/_}
 use mathlib.Core.Path.{_≡_}
 use mathlib.Core.Bool.{Bool, true, _&&_, _||_, not, cond}
-use mathlib.Core.List.{List, [], _∷_, _++_}
-use mathlib.Core.Option.{Option, none, some}
+use mathlib.Core.List.{List, [], _++_}
 use lib.IntN.{ℤ}
-use lib.Dec.{eqb, leb, ltb}
+use lib.Dec.{eqb}
 use lib.ListN.{length, set, take}
 use Rattle.rules.specs.declared.Step.{Step}
 use Rattle.rules.specs.declared.Entered.{Entered}
@@ -13,13 +12,14 @@ use Rattle.rules.specs.declared.SecurityTotal.{SecurityTotal}
 use Rattle.rules.specs.declared.SecurityTotal.the-variants.{SumUnits, NoUnits}
 use Rattle.rules.specs.declared.CashTotal.{CashTotal}
 use Rattle.rules.specs.declared.CashTotal.the-variants.{SumCents, NoCents}
-use Rattle.rules.specs.Tests.{Condition, _when_, firstOf}
+use Rattle.rules.specs.Tests.{firstOf}
 use Rattle.rules.specs.Calls.{Store, Call, enter, move, pay, settle, derive, Outcome, outcome, deskConditions, isAccepted, countOf}
 use Rattle.rules.specs.Calls.{deskSecurityTotal, deskCashTotal}
-use Rattle.rules.specs.Stream.{widthOf, callOf}
+use Rattle.rules.specs.Stream.{callOf}
 use Rattle.rules.specs.Outcomes.{holding, blanks}
 use Rattle.layout.specs.Layout.{countsLength, rowsLength, stepWidth, directoryIn, countsOf, bytesOf, withSteps}
-use Rattle.probe.specs.Codes.{misfit, codeOf, unitsCode, centsCode}
+use Rattle.codes.specs.Codes.{misfit, codeOf, unitsCode, centsCode}
+use Rattle.codes.specs.Read.{isEntry, isMove, width, readConditions}
 
 -- ---- what is handed in
 
@@ -31,14 +31,6 @@ fits counts rows = eqb (length counts) countsLength && eqb (length rows) rowsLen
 abbrev pub fitsSum : List ℕ → List ℕ → List ℤ → Bool
 fitsSum counts rows sum = fits counts rows && not (eqb (length sum) 0)
 
--- 01 to 03, 05 and 0E enter a row
-abbrev pub isEntry : ℕ → Bool
-isEntry tag = (leb 1 tag && leb tag 3) || (eqb tag 5 || eqb tag 14)
-
--- 06 to 09 bring in, take out, pay in, pay out
-abbrev pub isMove : ℕ → Bool
-isMove tag = leb 6 tag && leb tag 9
-
 -- 0A and 0C settle
 abbrev pub isSettlement : ℕ → Bool
 isSettlement tag = eqb tag 10 || eqb tag 12
@@ -46,15 +38,6 @@ isSettlement tag = eqb tag 10 || eqb tag 12
 -- 0B and 0D derive
 abbrev pub isDerivation : ℕ → Bool
 isDerivation tag = eqb tag 11 || eqb tag 13
-
--- as many bytes as are asked for, none for an unknown byte
-abbrev pub asked : Option ℕ → ℕ
-asked none = 0
-asked (some w) = w
-
--- how many operand bytes a command byte asks for
-abbrev pub width : ℕ → ℕ
-width tag = asked (widthOf tag)
 
 -- the call of a command byte; its operands are the first of the bytes
 abbrev pub callIn : ℕ → List ℕ → Call
@@ -73,10 +56,6 @@ abbrev pub stepsLent : List ℕ → List Step
 stepsLent steps = blanks (length steps / stepWidth)
 
 -- ---- what a call on a store answers and leaves
-
--- 1: "unknown byte"; 2: "operands cut short"
-abbrev pub readConditions : Bool → ℕ → List ℕ → List Condition
-readConditions known tag o = 1 when not known ∷ 2 when ltb (length o) (width tag) ∷ []
 
 -- 1 and 2, then the call's own from 3 on
 unfoldable pub obeyed : Bool → ℕ → List ℕ → Call → Store → Outcome

@@ -1,6 +1,12 @@
 // The calls, told by the byte of the command in the stream, with the bytes of its operands. An answer is a number: 256 for each kind before it,
 // and what it carries, at most 255. Counts and rows that do not stand for a directory are answered 1280, before all else; then come 1 and 2, by the
 // byte and its operands, and then what the desk's call answers. On a refusal everything lent is as it was.
+use codes::accepted;
+use codes::code_of;
+use codes::is_entry;
+use codes::is_move;
+use codes::read_refusal;
+use codes::width;
 use layout::COUNTS;
 use layout::ROWS;
 use layout::STEP_WIDTH;
@@ -15,8 +21,6 @@ use rules::Entered;
 use rules::Reply;
 use rules::SecurityTotal;
 use wire::commands::ENTER_PAIR;
-use wire::commands::Width;
-use wire::commands::width_of;
 use wire::operands;
 ghost use mathlib.Core.Path.{_≡_};
 ghost use mathlib.Core.Bool.{true};
@@ -24,84 +28,18 @@ ghost use mathlib.Core.List.{[]};
 ghost use mathlib.Core.Option.{some};
 ghost use lib.ListN.{length};
 ghost use Prim.Native.Nat.{_+_, _<_};
-ghost use Rattle.rules.specs.Tests.{firstOf};
 ghost use Rattle.rules.specs.Calls.{desk, isAccepted};
 ghost use Rattle.rules.specs.Stream.{widthOf, callOf, transcript, Printed};
 ghost use Rattle.rules.specs.Outcomes.{holding, settlementOn, derivationOn, blanks, replyOf};
 ghost use Rattle.wire.specs.Operands.{halvesIn, dayIn};
 ghost use Rattle.layout.specs.Layout.{stepsPut};
-ghost use Rattle.probe.specs.Codes.{capped, codeOf};
-ghost use Rattle.probe.specs.Exports.{isEntry, isMove, isSettlement, isDerivation, width, readConditions, enteredBy};
+ghost use Rattle.codes.specs.Codes.{codeOf};
+ghost use Rattle.codes.specs.Read.{isEntry, isMove};
+ghost use Rattle.probe.specs.Exports.{isSettlement, isDerivation, enteredBy};
 ghost use Rattle.probe.specs.Exports.{Enters, Moves, Settles, Derives, TotalsUnits, TotalsCents};
 
 // Counts, rows or the place of a sum do not fit.
 const MISFIT: u64 = 1280;
-
-fn small(k: usize) -> u64
-    ensures { λ r. ⌜ (r ≡ capped k) × (r < 256) ⌝ }
-{
-    if k < 256 { k as u64 } else { 255 }
-}
-
-// Accepted 0, Booked 256 and its steps, Chained 512 and its steps, Refused 768 and the number.
-fn code_of(answer: Answer) -> u64
-    ensures { λ r. ⌜ r ≡ codeOf answer ⌝ }
-{
-    match answer {
-        Answer::Accepted => 0,
-        Answer::Booked(k) => 256 + small(k),
-        Answer::Chained(k) => 512 + small(k),
-        Answer::Refused(number) => 768 + (number as u64),
-    }
-}
-
-fn accepted(answer: Answer) -> bool
-    ensures { λ r. ⌜ r ≡ isAccepted answer ⌝ }
-{
-    match answer {
-        Answer::Accepted => true,
-        Answer::Booked(_) => true,
-        Answer::Chained(_) => true,
-        Answer::Refused(_) => false,
-    }
-}
-
-// ---- a command byte and its operands
-
-fn is_entry(tag: u8) -> bool
-    ensures { λ r. ⌜ r ≡ isEntry tag ⌝ }
-{
-    ((1 <= tag) & (tag <= 3)) | ((tag == 5) | (tag == ENTER_PAIR))
-}
-
-fn is_move(tag: u8) -> bool
-    ensures { λ r. ⌜ r ≡ isMove tag ⌝ }
-{
-    (6 <= tag) & (tag <= 9)
-}
-
-// How many operand bytes a command byte asks for.
-fn width(tag: u8) -> usize
-    ensures { λ r. ⌜ r ≡ width tag ⌝ }
-{
-    match width_of(tag) {
-        Width::Bytes(bytes) => bytes,
-        Width::NoCommand => 0,
-    }
-}
-
-// 1 for a byte that the export does not know, 2 for operands that are cut short, else 0.
-fn read_refusal(known: bool, tag: u8, bytes: &[u8]) -> u8
-    ensures { λ r. ⌜ r ≡ firstOf (readConditions known tag (now (bytes .entry))) ⌝ }
-{
-    if !known {
-        return 1;
-    }
-    if bytes.len() < width(tag) {
-        return 2;
-    }
-    0
-}
 
 // ---- 01 to 03, 05 and 0E
 

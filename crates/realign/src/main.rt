@@ -1,12 +1,8 @@
 // Reads commands from standard input, and writes their transcript to standard output. One byte more than the limit is read, so that a longer input
 // is told from one that fits. What could not be read is not run, and what failed is said in a line on standard error.
-use input::Input;
-use input::read_input;
-use output::write_whole;
-
-mod transfers; // transfers.rt: what one call of the C library did
-mod input; // input.rt: standard input, read to its end
-mod output; // output.rt: bytes written to a descriptor
+use descriptors::input::Input;
+use descriptors::input::read_input;
+use descriptors::output::write_whole;
 
 fn main() {
     let mut input = [0u8; stream::INPUT + 1];

@@ -1,6 +1,6 @@
 -- `realign::main` is safe: what it hands on of the input stands in the buffer. Assumes nothing.
 use borrow.Author.Needs.{needs}
-use Rattle.realign.proofs.Answers.{whole, lent}
+use Rattle.descriptors.proofs.Answers.{whole, lent}
 use Rattle.realign.proofs.main.Statement.{statement}
 use Rattle.realign.proofs.main.Tie as tie
 

@@ -6,7 +6,8 @@ use native.Mathlib.Omega.{arith}
 use lib.ListN.{take}
 use lib.Seq.{length-take-le}
 use Rattle.rules.proofs.Basics.{unnot, unnot-false}
-use Rattle.probe.specs.Exports.{fits, isEntry}
+use Rattle.probe.specs.Exports.{fits}
+use Rattle.codes.specs.Read.{isEntry}
 use Rattle.probe.proofs.Read.{known-is, whole-is, whole}
 use Rattle.probe.proofs.Exported.{no-counts, no-rows, entry-unread, entry-refused, entry-accepted}
 use borrow.Author.Needs.{needs}

@@ -5,7 +5,8 @@ use Prim.Native.Nat.{ℕ}
 use native.Mathlib.Omega.{arith}
 use lib.ListN.{take}
 use lib.Seq.{length-take-le}
-use Rattle.probe.specs.Exports.{fits, isMove}
+use Rattle.probe.specs.Exports.{fits}
+use Rattle.codes.specs.Read.{isMove}
 use Rattle.probe.proofs.Read.{known-is, whole-is}
 use Rattle.probe.proofs.Exported.{no-counts, no-rows, move-unread, moved}
 use borrow.Author.Needs.{needs}
