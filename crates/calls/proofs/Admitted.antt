@@ -9,7 +9,7 @@ use Rattle.rules.specs.declared.Directory.{Directory}
 use Rattle.rules.specs.Entries.{sound}
 use Rattle.index.specs.Index.{indexSize, WholeTables}
 use Rattle.identifiers.specs.Names.{namesSize}
-use Rattle.entries.specs.Entered.{Kept}
+use Rattle.refusals.specs.Kept.{Kept}
 use Rattle.reading.specs.Read.{Reads, readDirectory, kept, nothingKept}
 use Rattle.reading.proofs.Sounds.{reading-sounds}
 use Rattle.calls.specs.Early.{Admits}

@@ -27,7 +27,7 @@ use Rattle.rules.specs.Calls.{Halves, delivering, receiving, sideUnknown, sameS
 use Rattle.rules.proofs.Basics.{eqb-true, eqb-false}
 use Rattle.index.specs.Asked.{asked, askedOn}
 use Rattle.index.proofs.Answers.{answers}
-use Rattle.entries.specs.Entered.{Kept, Keeps}
+use Rattle.refusals.specs.Kept.{Kept, Keeps}
 use Rattle.chain.specs.StepList.{stepNumbers, stepsIn}
 use Rattle.chain.specs.Derivation.{derived, derivedInto, Derives}
 use Rattle.chain.proofs.StepList.{steps-counted}

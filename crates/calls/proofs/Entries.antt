@@ -12,8 +12,8 @@ use Rattle.rules.specs.Directory.{rowsOf}
 use Rattle.rules.specs.Entries.{Row, rowConditions, addRow}
 use Rattle.rules.specs.Calls.{Store, Outcome, enter, outcome, misfit, core}
 use Rattle.rules.proofs.Tables.{Room, room}
-use Rattle.entries.specs.Entered.{Kept, refusalIn}
-use Rattle.entries.proofs.Refusing.{refusal-is}
+use Rattle.refusals.specs.Kept.{Kept, refusalIn}
+use Rattle.refusals.proofs.Refusing.{refusal-is}
 use Rattle.rules.specs.Outcomes.{holding, enteredOn}
 use Rattle.calls.specs.Early.{Admits}
 use Rattle.calls.proofs.Before.{early-refused, early-passed}

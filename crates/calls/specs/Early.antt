@@ -6,7 +6,7 @@ use mathlib.Core.List.{[], _∷_}
 use Rattle.rules.specs.declared.Directory.{Directory}
 use Rattle.rules.specs.Tests.{_when_, firstOf}
 use Rattle.rules.specs.Entries.{sound}
-use Rattle.entries.specs.Entered.{Kept, Keeps}
+use Rattle.refusals.specs.Kept.{Kept, Keeps}
 
 -- 3 where a list that a call is lent does not fit, else 4 where the directory is not sound, else 0
 abbrev pub early : Bool → Directory → ℕ

@@ -1,12 +1,12 @@
 // The five entries: the answer, and the directory after it.
 use crate::early_refusal;
-use entries::refusals::account_refusal;
-use entries::refusals::csd_refusal;
-use entries::refusals::link_refusal;
-use entries::refusals::pair_refusal;
-use entries::refusals::security_refusal;
 use identifiers::names::NAMES;
 use index::places::INDEX;
+use refusals::account_refusal;
+use refusals::csd_refusal;
+use refusals::link_refusal;
+use refusals::pair_refusal;
+use refusals::security_refusal;
 use rules::Account;
 use rules::Answer;
 use rules::Csd;

@@ -13,7 +13,7 @@ use Rattle.rules.proofs.Tables.{empty-sized, empty-rows, empty-sound}
 use Rattle.rules.specs.declared.Pair.{Pair}
 use Rattle.index.specs.Index.{Place, indexOf, placeOf, indexSize, Indexed, duoOf, servedRow, mirrorCode, omnibusCode, investorCode, technicalCode}
 use Rattle.identifiers.specs.Names.{Named, bicSize, isinSize, isins, namesSize}
-use Rattle.entries.specs.Entered.{Keeps}
+use Rattle.refusals.specs.Kept.{Keeps}
 use Rattle.entries.proofs.ByTable.{every-place}
 use Rattle.entries.proofs.Growing.{whole}
 

@@ -15,7 +15,8 @@ use Rattle.rules.proofs.Growth.{keeps-sound}
 use Rattle.index.specs.Index.{Place, Inside, placeOf, numberAt, indexOf, WholeTables}
 use Rattle.index.proofs.Standing.{number-at}
 use Rattle.identifiers.specs.Names.{Named}
-use Rattle.entries.specs.Entered.{Kept, Keeps, counted}
+use Rattle.refusals.specs.Kept.{Kept, Keeps}
+use Rattle.entries.specs.Entered.{counted}
 use Rattle.entries.proofs.Stored.{Store, stored, Change, change-length, change-at}
 
 sized : (d : Directory) → WholeTables d → Sized d

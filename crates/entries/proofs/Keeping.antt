@@ -5,8 +5,9 @@ use Rattle.rules.specs.declared.Directory.{Directory}
 use Rattle.rules.specs.Tests.{firstOf}
 use Rattle.rules.specs.Directory.{rowsOf}
 use Rattle.rules.specs.Entries.{Row, csdRow, securityRow, accountRow, pairRow, linkRow, rowConditions, addRow}
-use Rattle.entries.specs.Entered.{Kept, Keeps, refusalIn, withRowIn, answered, keptBy, enteredIn, enteredBy, enterRow}
-use Rattle.entries.proofs.Refusing.{refusal-is}
+use Rattle.refusals.specs.Kept.{Kept, Keeps, refusalIn}
+use Rattle.entries.specs.Entered.{withRowIn, answered, keptBy, enteredIn, enteredBy, enterRow}
+use Rattle.refusals.proofs.Refusing.{refusal-is}
 use Rattle.entries.proofs.NewCsd.{csd-added}
 use Rattle.entries.proofs.NewSecurity.{security-added}
 use Rattle.entries.proofs.NewAccount.{account-added}

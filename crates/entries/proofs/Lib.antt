@@ -8,6 +8,5 @@ pub mod NewSecurity
 pub mod NewAccount
 pub mod NewPair
 pub mod NewLink
-pub mod Refusing
 pub mod Keeping
 pub mod Empty

@@ -13,7 +13,8 @@ use Rattle.rules.specs.Demands.{withRow}
 use Rattle.rules.proofs.Basics.{impossible, quiet}
 use Rattle.index.specs.Index.{accountCount, homeAt, kindAt, indexOf, homeCode, kindCode}
 use Rattle.index.proofs.Laws.{one-more-row, row-new, row-old}
-use Rattle.entries.specs.Entered.{Kept, Keeps, withAccount, withRowIn}
+use Rattle.refusals.specs.Kept.{Kept, Keeps}
+use Rattle.entries.specs.Entered.{withAccount, withRowIn}
 use Rattle.entries.proofs.Stored.{Store, Change}
 use Rattle.entries.proofs.ByTable.{OfAccounts, Same, every-place, same-csds, same-securities, same-pairs, same-links}
 use Rattle.entries.proofs.Growing.{not-full, same-names, number-is, grown}

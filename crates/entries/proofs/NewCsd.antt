@@ -15,7 +15,8 @@ use Rattle.rules.proofs.Basics.{impossible, quiet}
 use Rattle.index.specs.Index.{csdCount, typeAt, indexOf, typeCode}
 use Rattle.index.proofs.Laws.{one-more-row, row-new, row-old}
 use Rattle.identifiers.specs.Names.{Named, bicSize, isinSize, isins, bicByte}
-use Rattle.entries.specs.Entered.{Kept, Keeps, withCsd, withBic, withRowIn}
+use Rattle.refusals.specs.Kept.{Kept, Keeps}
+use Rattle.entries.specs.Entered.{withCsd, withBic, withRowIn}
 use Rattle.entries.proofs.Stored.{Store, Change}
 use Rattle.entries.proofs.ByTable.{OfCsds, Same, every-place, same-securities, same-accounts, same-pairs, same-links}
 use Rattle.identifiers.proofs.Bytes.{bytes-length, bytes-other, name-added}

@@ -23,7 +23,8 @@ use Rattle.index.specs.Index.{Place, linkCount, newestAt, linkAt, linkNumbers, 
 use Rattle.index.proofs.LookingUp.{facts, csd-small}
 use Rattle.index.proofs.LinkList.{reversed}
 use Rattle.index.proofs.Laws.{unknown, one-more-row, row-new, row-old}
-use Rattle.entries.specs.Entered.{Kept, Keeps, withLink, withRowIn}
+use Rattle.refusals.specs.Kept.{Kept, Keeps}
+use Rattle.entries.specs.Entered.{withLink, withRowIn}
 use Rattle.entries.proofs.Stored.{Store, Apart, Change}
 use Rattle.entries.proofs.ByTable.{OfLinks, Same, every-place, same-csds, same-securities, same-accounts, same-pairs}
 use Rattle.entries.proofs.Growing.{not-full, same-names, number-is, grown}

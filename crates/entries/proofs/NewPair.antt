@@ -24,7 +24,8 @@ use Rattle.rules.proofs.Pairs.{uses-mirror, uses-omnibus}
 use Rattle.index.specs.Index.{Place, pairCount, mirrorAt, omnibusAt, investorAt, technicalAt, servedAt, Inside, indexOf, duoOf, servesAt, servedRow, mirrorCode, omnibusCode, investorCode, technicalCode}
 use Rattle.index.proofs.LookingUp.{facts, csd-small}
 use Rattle.index.proofs.Laws.{one-more-row}
-use Rattle.entries.specs.Entered.{Kept, Keeps, withDuo, withPair, withRowIn}
+use Rattle.refusals.specs.Kept.{Kept, Keeps}
+use Rattle.entries.specs.Entered.{withDuo, withPair, withRowIn}
 use Rattle.entries.proofs.Stored.{Store, Right, Change}
 use Rattle.entries.proofs.ByTable.{OfPairs, Same, every-place, same-csds, same-securities, same-accounts, same-links}
 use Rattle.entries.proofs.OneMore.{find-kept, find-old, find-new}

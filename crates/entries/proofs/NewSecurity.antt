@@ -15,7 +15,8 @@ use Rattle.rules.proofs.Basics.{quiet}
 use Rattle.index.specs.Index.{securityCount, indexOf}
 use Rattle.index.proofs.Laws.{one-more-row}
 use Rattle.identifiers.specs.Names.{Named, bicSize, isinSize, isins, isinByte}
-use Rattle.entries.specs.Entered.{Kept, Keeps, withSecurity, withIsin, withRowIn}
+use Rattle.refusals.specs.Kept.{Kept, Keeps}
+use Rattle.entries.specs.Entered.{withSecurity, withIsin, withRowIn}
 use Rattle.entries.proofs.Stored.{Change}
 use Rattle.entries.proofs.ByTable.{Same, every-place, same-csds, same-accounts, same-pairs, same-links}
 use Rattle.identifiers.proofs.Bytes.{bytes-length, bytes-other, name-added}

@@ -1,9 +1,9 @@
--- Entries over an index and the identifiers: what refuses a row, and what it adds. Assumes nothing.
+-- Entries over an index and the identifiers: what a row adds, unless it is refused. Assumes nothing.
 use mathlib.Core.Path.{_≡_}
 use Prim.Native.Nat.{ℕ, zero, suc, _+_, _*_}
 use mathlib.Core.Bool.{cond}
 use mathlib.Core.List.{List}
-use lib.Dec.{ltb, leb, eqb}
+use lib.Dec.{ltb, eqb}
 use lib.ListN.{take}
 use Rattle.rules.specs.declared.Csd.{Csd}
 use Rattle.rules.specs.declared.Security.{Security}
@@ -15,51 +15,11 @@ use Rattle.rules.specs.declared.Answer.{Answer}
 use Rattle.rules.specs.declared.Answer.the-variants.{Accepted, Refused}
 use Rattle.rules.specs.declared.Entered.{Entered}
 use Rattle.rules.specs.Tests.{firstOf}
-use Rattle.rules.specs.Directory.{rowsOf, csdLimit, securityLimit, linkLimit, noAccount}
-use Rattle.rules.specs.Entries.{Row, csdRow, securityRow, accountRow, pairRow, linkRow, csdConditions, securityConditions, accountConditions, pairConditions, linkConditions, rowConditions, addRow}
-use Rattle.index.specs.Index.{Indexed, Place, csdCount, securityCount, accountCount, pairCount, linkCount, placeOf, types, homes, kinds, mirrors, omnibuses, investors, technicals, served, newest, links, linkNumbers, rowAt, numberAt, withNumber}
-use Rattle.index.specs.Asked.{read, asked}
-use Rattle.identifiers.specs.Names.{bicSize, isinSize, isins, bicIn, isinIn, withBytes, Named}
-
--- What is kept of a directory: the numbers of its index, and the bytes of its identifiers.
-pub record Kept : Type 0 where
-  pub numbers : List ℕ
-  pub names : List ℕ
-
--- it is kept of this sound directory
-pub record Keeps (k : Kept) (d : Directory) : Type 0 where
-  pub indexed : Indexed (k .numbers) d
-  pub named : Named (k .names) (rowsOf d)
-
--- ---- the refusal of a row, 0 for none
-
--- of a CSD, by the numbers l and the bytes b
-unfoldable pub csdRefusalIn : List ℕ → List ℕ → Csd → ℕ
-csdRefusalIn l b x = firstOf (csdConditions (leb csdLimit (read l csdCount)) (bicIn l b) x)
-
--- of a security
-unfoldable pub securityRefusalIn : List ℕ → List ℕ → Security → ℕ
-securityRefusalIn l b x = firstOf (securityConditions (leb securityLimit (read l securityCount)) (isinIn l b) x)
-
--- of an account
-unfoldable pub accountRefusalIn : List ℕ → Account → ℕ
-accountRefusalIn l x = firstOf (accountConditions (asked l) x)
-
--- of a pair
-unfoldable pub pairRefusalIn : List ℕ → Pair → ℕ
-pairRefusalIn l x = firstOf (pairConditions (asked l) x)
-
--- of a link
-unfoldable pub linkRefusalIn : List ℕ → Link → ℕ
-linkRefusalIn l x = firstOf (linkConditions (leb linkLimit (read l linkCount)) (asked l) x)
-
--- of any row
-abbrev pub refusalIn : Kept → Row → ℕ
-refusalIn k (csdRow x) = csdRefusalIn (k .numbers) (k .names) x
-refusalIn k (securityRow x) = securityRefusalIn (k .numbers) (k .names) x
-refusalIn k (accountRow x) = accountRefusalIn (k .numbers) x
-refusalIn k (pairRow x) = pairRefusalIn (k .numbers) x
-refusalIn k (linkRow x) = linkRefusalIn (k .numbers) x
+use Rattle.rules.specs.Directory.{rowsOf, csdLimit, linkLimit, noAccount}
+use Rattle.rules.specs.Entries.{Row, csdRow, securityRow, accountRow, pairRow, linkRow, rowConditions, addRow}
+use Rattle.index.specs.Index.{Place, csdCount, securityCount, accountCount, pairCount, linkCount, placeOf, types, homes, kinds, mirrors, omnibuses, investors, technicals, served, newest, links, linkNumbers, rowAt, numberAt, withNumber}
+use Rattle.identifiers.specs.Names.{bicSize, isinSize, isins, withBytes}
+use Rattle.refusals.specs.Kept.{Kept, csdRefusalIn, securityRefusalIn, refusalIn}
 
 -- ---- what a row adds
 

@@ -1,4 +1,3 @@
-// The five entries of document 01 over the index of a directory: what refuses a row, and what it adds.
+// The five entries of document 01 over the index of a directory: what each adds, unless it is refused.
 
-pub mod refusals; // refusals.rt: whether a row may be entered
 pub mod entries; // entries.rt: the five entries, and what each adds

@@ -9,7 +9,8 @@ use Rattle.rules.specs.Directory.{Rows, rowsOf}
 use Rattle.rules.specs.Entries.{Row, securityRow, accountRow, pairRow, linkRow, withinLimits}
 use Rattle.rules.proofs.Basics.{unnot, unnot-false}
 use Rattle.index.proofs.Laws.{ahead, over}
-use Rattle.entries.specs.Entered.{Kept, refusalIn, withRowIn}
+use Rattle.refusals.specs.Kept.{Kept, refusalIn}
+use Rattle.entries.specs.Entered.{withRowIn}
 use Rattle.reading.specs.Read.{Reading, Reads, readBy, readRows, inOrder, readDirectory, kept}
 
 -- a reading that ended with this answer and these lists

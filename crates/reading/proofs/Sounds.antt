@@ -20,8 +20,9 @@ use Rattle.rules.specs.Demands.{withRow, noRows}
 use Rattle.rules.proofs.Basics.{and-both, eqb-false}
 use Rattle.rules.proofs.Tables.{added-rows, empty-rows}
 use Rattle.index.specs.Index.{WholeTables}
-use Rattle.entries.specs.Entered.{Kept, Keeps, refusalIn, withRowIn}
-use Rattle.entries.proofs.Refusing.{refusal-is}
+use Rattle.refusals.specs.Kept.{Kept, Keeps, refusalIn}
+use Rattle.entries.specs.Entered.{withRowIn}
+use Rattle.refusals.proofs.Refusing.{refusal-is}
 use Rattle.entries.proofs.Keeping.{keeps-grown}
 use Rattle.entries.proofs.Empty.{keeps-empty}
 use Rattle.reading.specs.Read.{readRows, inOrder, readDirectory, nothingKept, ReadingSounds}

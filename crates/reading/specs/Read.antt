@@ -9,7 +9,8 @@ use Rattle.rules.specs.Directory.{Rows, rowsOf}
 use Rattle.rules.specs.Entries.{Row, csdRow, securityRow, accountRow, pairRow, linkRow, withinLimits, sound}
 use Rattle.index.specs.Index.{indexSize, WholeTables}
 use Rattle.identifiers.specs.Names.{namesSize}
-use Rattle.entries.specs.Entered.{Kept, Keeps, refusalIn, withRowIn}
+use Rattle.refusals.specs.Kept.{Kept, Keeps, refusalIn}
+use Rattle.entries.specs.Entered.{withRowIn}
 
 -- Whether every row was accepted, and what is kept after the last that was.
 pub record Reading : Type 0 where

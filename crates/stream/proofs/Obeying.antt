@@ -18,7 +18,8 @@ use Rattle.rules.specs.Calls.{Halves, delivering, receiving, sideUnknown, sameS
 use Rattle.rules.specs.Stream.{programSteps}
 use Rattle.index.specs.Asked.{asked, askedOn}
 use Rattle.index.proofs.Answers.{answers}
-use Rattle.entries.specs.Entered.{Kept, Keeps, refusalIn, withRowIn, answered, left, keptBy, enteredIn, enteredBy, enterRow}
+use Rattle.refusals.specs.Kept.{Kept, Keeps, refusalIn}
+use Rattle.entries.specs.Entered.{withRowIn, answered, left, keptBy, enteredIn, enteredBy, enterRow}
 use Rattle.entries.proofs.Keeping.{keeps-entered, answer-is}
 use Rattle.chain.specs.StepList.{stepsIn}
 use Rattle.chain.specs.Derivation.{derived, derivedInto, DerivedIn, Derives}

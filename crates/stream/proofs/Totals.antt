@@ -26,7 +26,7 @@ use Rattle.index.specs.Index.{securityCount, placeOf, numberAt}
 use Rattle.index.specs.Asked.{read, asked}
 use Rattle.index.proofs.Answers.{answers}
 use Rattle.identifiers.specs.Names.{isinOf}
-use Rattle.entries.specs.Entered.{Kept, Keeps}
+use Rattle.refusals.specs.Kept.{Kept, Keeps}
 use Rattle.identifiers.proofs.Identified.{isin-shown}
 use Rattle.stream.specs.Obeyed.{Held, Holds}
 use Rattle.stream.specs.Ending.{unitsIn, centsIn, totalIn, totalsIn, securitiesIn, endingIn, Totalled}

@@ -18,7 +18,7 @@ use Rattle.rules.specs.Stream.{totalLine, cashLine}
 use Rattle.index.specs.Index.{securityCount}
 use Rattle.index.specs.Asked.{read, asked}
 use Rattle.identifiers.specs.Names.{isinOf}
-use Rattle.entries.specs.Entered.{Kept}
+use Rattle.refusals.specs.Kept.{Kept}
 use Rattle.booking.specs.Sums.{securityTotal, cashTotal}
 
 -- ---- by what is held

@@ -9,7 +9,7 @@ use lib.ListN.{length, take}
 use Rattle.rules.specs.declared.Answer.{Answer}
 use Rattle.rules.specs.Calls.{Halves, Store, Call, settle, derive, Outcome, core, countOf}
 use Rattle.rules.specs.Stream.{widthOf, programSteps}
-use Rattle.entries.specs.Entered.{Kept, Keeps}
+use Rattle.refusals.specs.Kept.{Kept, Keeps}
 use Rattle.chain.specs.StepList.{stepNumbers, stepsIn}
 
 -- What a stream holds from one command to the next: what is kept of its directory, its positions, its cash and its step list.
