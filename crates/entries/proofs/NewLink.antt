@@ -8,7 +8,7 @@ use mathlib.Core.Option.{Option, none, some}
 use native.Mathlib.Omega.{arith}
 use native.Mathlib.Decide.{ℕ-discrete, decLt}
 use borrow.Author.Tests.{lt-ltb}
-use lib.ListN.{length, take, getElem?, length-reverse}
+use lib.ListN.{length, getD, take, getElem?, length-reverse}
 use Rattle.rules.specs.declared.Link.{Link}
 use Rattle.rules.specs.declared.Directory.{Directory}
 use Rattle.rules.specs.Tests.{firstOf}
@@ -19,7 +19,7 @@ use Rattle.rules.proofs.Basics.{impossible, untrue}
 use Rattle.rules.proofs.RowTests.{says-link}
 use Rattle.rules.proofs.Accounts.{security-small}
 use Rattle.rules.proofs.NewLinks.{NewLink, accepted-link}
-use Rattle.index.specs.Index.{Place, linkCount, newestAt, linkAt, linkNumbers, rowAt, newestCode, linkCode, numberOf, Inside, indexOf}
+use Rattle.index.specs.Index.{Place, linkCount, newestAt, linkAt, linkNumbers, rowAt, newestCode, linkCode, numbersOf, Inside, indexOf}
 use Rattle.index.proofs.LookingUp.{facts, csd-small}
 use Rattle.index.proofs.LinkList.{reversed}
 use Rattle.index.proofs.Laws.{unknown, one-more-row, row-new, row-old}
@@ -31,7 +31,7 @@ use Rattle.entries.proofs.Growing.{not-full, same-names, number-is, gro
 
 -- one of its numbers, where the next older link stands at `next`
 abbrev number : Link → ℕ → ℕ → ℕ → Store
-number x n next f = record { at = linkAt n f; number = numberOf next x f }
+number x n next f = record { at = linkAt n f; number = getD (numbersOf next x) f 0 }
 
 -- all of them
 abbrev numbers : Link → ℕ → ℕ → List Store
@@ -70,8 +70,10 @@ module _ (r : Rows) (x : Link) (few : length (r .links) < linkLimit) (cell : (x 
   here : newestCode (x .security) (x .csd) (reverse (r′ .links)) ≡ rowAt n
   here = rw (newest-row (x .security) (x .csd), says-link (x .security) (x .csd) x .tests (refl, refl))
 
-  number-new : (f : ℕ) → indexOf r′ (linkAt n f) ≡ numberOf next x f
-  number-new f = rw (row-new (r .links) x, whole-rows (r .links) x)
+  number-new : (f : ℕ) → indexOf r′ (linkAt n f) ≡ getD (numbersOf next x) f 0
+  number-new f =
+      ap (λ (o : Option Link). linkCode (reverse (take n (r′ .links))) o f) (row-new (r .links) x)
+      ∙ ap (λ (ls : List Link). getD (numbersOf (newestCode (x .security) (x .csd) (reverse ls)) x) f 0) (whole-rows (r .links) x)
 
   -- every other number is as it was
   link-kept : (m f : ℕ) → m ≢ n → indexOf r (linkAt m f) ≡ indexOf r′ (linkAt m f)
@@ -106,7 +108,7 @@ module _ (r : Rows) (x : Link) (few : length (r .links) < linkLimit) (cell : (x 
       go m f (yes e) h a = absurd (stored-all f h (subst (λ (k : ℕ). Apart (linkAt k f) (numbers x n next)) e a))
       go m f (no o) h a = link-kept m f o
 
-  right : (f : ℕ) → f < linkNumbers → Inside (linkAt n f) × (indexOf r′ (linkAt n f) ≡ numberOf next x f)
+  right : (f : ℕ) → f < linkNumbers → Inside (linkAt n f) × (indexOf r′ (linkAt n f) ≡ getD (numbersOf next x) f 0)
   right f h = ((few, h), number-new f)
 
   change : Change (indexOf r) (indexOf r′) linkCount ss

@@ -17,7 +17,7 @@ use Rattle.rules.specs.declared.Entered.{Entered}
 use Rattle.rules.specs.Tests.{firstOf}
 use Rattle.rules.specs.Directory.{rowsOf, csdLimit, linkLimit, noAccount}
 use Rattle.rules.specs.Entries.{Row, csdRow, securityRow, accountRow, pairRow, linkRow, rowConditions, addRow}
-use Rattle.index.specs.Index.{Place, csdCount, securityCount, accountCount, pairCount, linkCount, placeOf, types, homes, kinds, mirrors, omnibuses, investors, technicals, served, newest, links, linkNumbers, rowAt, numberAt, withNumber}
+use Rattle.index.specs.Index.{Place, csdCount, securityCount, accountCount, pairCount, linkCount, placeOf, types, homes, kinds, mirrors, omnibuses, investors, technicals, served, newest, links, nextNumber, firstNumber, lastNumber, kindNumber, flagNumber, technicalNumber, accountNumber, linkNumbers, rowAt, numberAt, withNumber}
 use Rattle.identifiers.specs.Names.{bicSize, isinSize, isins, withBytes}
 use Rattle.refusals.specs.Kept.{Kept, csdRefusalIn, securityRefusalIn, refusalIn}
 
@@ -75,13 +75,13 @@ withLink x l =
     let cell = newest + (x .security * csdLimit + x .csd) in
     let numbers =
     withNumber (withNumber (withNumber (withNumber (withNumber (withNumber (withNumber l
-    (links + (n * linkNumbers + 0)) (numberAt l cell))
-    (links + (n * linkNumbers + 1)) (x .first))
-    (links + (n * linkNumbers + 2)) (x .last))
-    (links + (n * linkNumbers + 3)) (x .kind))
-    (links + (n * linkNumbers + 4)) (x .flag))
-    (links + (n * linkNumbers + 5)) (x .technical))
-    (links + (n * linkNumbers + 6)) (x .account) in
+    (links + (n * linkNumbers + nextNumber)) (numberAt l cell))
+    (links + (n * linkNumbers + firstNumber)) (x .first))
+    (links + (n * linkNumbers + lastNumber)) (x .last))
+    (links + (n * linkNumbers + kindNumber)) (x .kind))
+    (links + (n * linkNumbers + flagNumber)) (x .flag))
+    (links + (n * linkNumbers + technicalNumber)) (x .technical))
+    (links + (n * linkNumbers + accountNumber)) (x .account) in
     counted linkCount (withNumber numbers cell (rowFor n))
 
 -- any row

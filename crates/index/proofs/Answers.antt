@@ -7,7 +7,7 @@ use mathlib.Core.List.{List, [], _∷_, reverse, List·Memᴰ, List·Memᴰ·hea
 use mathlib.Core.Option.{Option, none, some}
 use native.Mathlib.Omega.{arith}
 use lib.Dec.{eqb, ltb, leb}
-use lib.ListN.{length, take, getElem?}
+use lib.ListN.{length, take, getElem?, List·getD-eq-default}
 use borrow.Author.Tests.{ltb-false, lt-ltb, le-ltb, lt-leb, ne-eqb}
 use Rattle.rules.specs.declared.Account.{Account}
 use Rattle.rules.specs.declared.Pair.{Pair}
@@ -24,7 +24,7 @@ use Rattle.rules.proofs.Days.{in-reverse, in-links}
 use Rattle.rules.proofs.Accounts.{security-small}
 use Rattle.rules.proofs.Soundness.{sound-gives, sound-links, few-links}
 use Rattle.rules.proofs.Pairs.{found-pair}
-use Rattle.index.specs.Index.{Indexed, Place, csdCount, securityCount, accountCount, pairCount, linkCount, typeAt, homeAt, kindAt, mirrorAt, omnibusAt, investorAt, technicalAt, servedAt, newestAt, linkAt, linkNumbers, rowAt, numberAt, placeOf, newestCode, numberOf, linkCode, indexOf, typeCode, homeCode, duoOf, servedRow, mirrorCode, omnibusCode, investorCode, technicalCode}
+use Rattle.index.specs.Index.{Indexed, Place, csdCount, securityCount, accountCount, pairCount, linkCount, typeAt, homeAt, kindAt, mirrorAt, omnibusAt, investorAt, technicalAt, servedAt, newestAt, linkAt, linkNumbers, rowAt, numberAt, placeOf, newestCode, numbersOf, linkCode, indexOf, typeCode, homeCode, duoOf, servedRow, mirrorCode, omnibusCode, investorCode, technicalCode}
 use Rattle.index.specs.Asked.{IndexAnswers, has, read, homeBy, booksIn, pairBy, duoIs, linksAt, linksOn, leads, asIssuer, asDefault, isThere, askedBy}
 use Rattle.index.proofs.Laws.{unknown}
 use Rattle.index.proofs.Found.{any-found, any-missing}
@@ -113,17 +113,6 @@ module _ (r : Rows) (F : Facts r) (s c : ℕ) where
               let d : defaults x ≡ true = elim (or-cases (issues x) (defaults x) p) [ inl z ↦ clash (issues x) z i | inr z ↦ z ] in
               sym (only-found defaults ls x m d (λ y n j. one-default y x n m j d))
 
--- ---- links beyond the places
-no-number : (next : ℕ) (x : Link) (f : ℕ) → linkNumbers ≤ f → numberOf next x f ≡ 0
-no-number next x zero h = absurd (omega arith)
-no-number next x (suc zero) h = absurd (omega arith)
-no-number next x (suc (suc zero)) h = absurd (omega arith)
-no-number next x (suc (suc (suc zero))) h = absurd (omega arith)
-no-number next x (suc (suc (suc (suc zero)))) h = absurd (omega arith)
-no-number next x (suc (suc (suc (suc (suc zero))))) h = absurd (omega arith)
-no-number next x (suc (suc (suc (suc (suc (suc zero)))))) h = absurd (omega arith)
-no-number next x (suc (suc (suc (suc (suc (suc (suc f))))))) h = refl
-
 no-link : (s c : ℕ) (ls : List Link) → ((k : Link) → List·Memᴰ k ls → (k .security < securityLimit) × (k .csd < csdLimit))
     → (s < securityLimit → c < csdLimit → ⊥) → newestCode s c ls ≡ 0
 no-link s c [] small n = refl
@@ -169,7 +158,7 @@ module _ {l : List ℕ} {d : Directory} (h : Indexed l d) where
     where
       go : (o : Option Link) → getElem? (r .links) n ≡ o → 0 ≡ linkCode (reverse (take n (r .links))) o f
       go none g = refl
-      go (some x) g = sym (no-number (newestCode (x .security) (x .csd) (reverse (take n (r .links)))) x f
+      go (some x) g = sym (List·getD-eq-default (numbersOf (newestCode (x .security) (x .csd) (reverse (take n (r .links)))) x) 0
           (ltb-false f linkNumbers (and-second (ltb n linkLimit) (ltb f linkNumbers) e
           (lt-ltb n linkLimit (omega (arith, few-links d (h .soundBooks), row-within (r .links) n x g))))))
 

@@ -15,7 +15,7 @@ use Rattle.rules.specs.Tests.{only}
 use Rattle.rules.specs.Directory.{Rows, csdLimit, linkLimit, noCsd, covers, isLink, linksOf, linksFor}
 use Rattle.rules.proofs.Basics.{impossible}
 use Rattle.rules.proofs.RowTests.{says-link}
-use Rattle.index.specs.Index.{linkNumbers, rowAt, newestCode, linkCode, numberAt}
+use Rattle.index.specs.Index.{nextNumber, firstNumber, lastNumber, kindNumber, flagNumber, technicalNumber, accountNumber, linkNumbers, rowAt, newestCode, linkCode, numberAt}
 use Rattle.index.specs.Asked.{technicalBy, linkIn, olderAt, linksFrom}
 use Rattle.index.proofs.LinkReading.{goes}
 
@@ -111,18 +111,18 @@ module _ (l : List ℕ) (ls : List Link) (few : length ls ≤ linkLimit)
     unfolding linkIn
     link-read p =
         let of = says-link s c x .holds p in
-        let technical : technicalBy (numberAt l (rowAt n + 5)) ≡ x .technical = ap technicalBy (number 5 (omega arith)) ∙ rw (le-ltb 0xff (x .technical) (small x (is-row ls n x e))) in
-        let kind = number 3 (omega arith) in
-        let flag = number 4 (omega arith) in
-        let account = number 6 (omega arith) in
-        let first = number 1 (omega arith) in
-        let last = number 2 (omega arith) in
+        let technical : technicalBy (numberAt l (rowAt n + technicalNumber)) ≡ x .technical = ap technicalBy (number technicalNumber (omega arith)) ∙ rw (le-ltb 0xff (x .technical) (small x (is-row ls n x e))) in
+        let kind = number kindNumber (omega arith) in
+        let flag = number flagNumber (omega arith) in
+        let account = number accountNumber (omega arith) in
+        let first = number firstNumber (omega arith) in
+        let last = number lastNumber (omega arith) in
         λ i. record { security = sym (of .0) i; kind = kind i; csd = sym (of .1) i; technical = technical i; flag = flag i; account = account i; first = first i; last = last i }
 
     next-read : isLink s c x ≡ true → length (reverse (take n ls)) ≡ n → olderAt l (rowAt n) ≡ newestCode s c (reverse (take n ls))
     next-read p count =
         let of = says-link s c x .holds p in
-        let next : numberAt l (rowAt n + 0) ≡ newestCode s c (reverse (take n ls)) = number 0 (omega arith) ∙ rw (of .0, of .1) in
+        let next : numberAt l (rowAt n + nextNumber) ≡ newestCode s c (reverse (take n ls)) = number nextNumber (omega arith) ∙ rw (of .0, of .1) in
         let before : newestCode s c (reverse (take n ls)) < rowAt n = rw count at (newest-before s c (reverse (take n ls))) in
         rw (next, lt-ltb (newestCode s c (reverse (take n ls))) (rowAt n) before)
 

@@ -15,7 +15,7 @@ use Rattle.rules.specs.Entries.{hasDayIn}
 use Rattle.rules.proofs.Basics.{equal-tests, clash, and-both, and-true, or-none, or-false, or-right, eqb-not, eqb-false, ltb-is, ltb-not, ltb-true, ltb-false, leb-is, leb-true}
 use Rattle.index.specs.declared.links.Wanted.{Wanted}
 use Rattle.index.specs.declared.links.Wanted.the-variants.{Any, Issuers, Defaults, Towards}
-use Rattle.index.specs.Index.{newestAt, lastRow, numberAt}
+use Rattle.index.specs.Index.{newestAt, nextNumber, lastRow, numberAt}
 use Rattle.index.specs.Asked.{read, linkIn, endsAt, olderAt, leads, linksFrom, linksAt, linksOn}
 use Rattle.index.specs.Found.{wants, codeFrom, foundIn, leadIn}
 
@@ -43,10 +43,10 @@ ends p h = or-right (eqb p 0) (ltb lastRow p) (ltb-true lastRow p h)
 
 -- the next older link stands before
 pub older-before : (l : List ℕ) (p : ℕ) → 1 ≤ p → olderAt l p < p
-older-before l p a = go (ltb (numberAt l (p + 0)) p) refl
+older-before l p a = go (ltb (numberAt l (p + nextNumber)) p) refl
   where
-    go : (b : Bool) → ltb (numberAt l (p + 0)) p ≡ b → cond b (numberAt l (p + 0)) 0 < p
-    go true e = ltb-is (numberAt l (p + 0)) p e
+    go : (b : Bool) → ltb (numberAt l (p + nextNumber)) p ≡ b → cond b (numberAt l (p + nextNumber)) 0 < p
+    go true e = ltb-is (numberAt l (p + nextNumber)) p e
     go false e = a
 
 module _ (l : List ℕ) (s c : ℕ) (t : Link → Bool) where

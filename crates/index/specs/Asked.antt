@@ -12,7 +12,7 @@ use Rattle.rules.specs.declared.Directory.{Directory}
 use Rattle.rules.specs.Tests.{any, find, only}
 use Rattle.rules.specs.Directory.{rowsOf, rowsOn, covers, issues, defaults, pointsTo, csdLimit, securityLimit, accountLimit, pairLimit, linkLimit, noCsd, noAccount}
 use Rattle.rules.specs.Lookups.{Lookups, technicalOf, accountOf, ask}
-use Rattle.index.specs.Index.{Indexed, Place, csdCount, securityCount, accountCount, pairCount, linkCount, typeAt, homeAt, kindAt, mirrorAt, omnibusAt, investorAt, technicalAt, servedAt, newestAt, linkAt, linkNumbers, lastRow, placeOf, numberAt}
+use Rattle.index.specs.Index.{Indexed, Place, csdCount, securityCount, accountCount, pairCount, linkCount, typeAt, homeAt, kindAt, mirrorAt, omnibusAt, investorAt, technicalAt, servedAt, newestAt, linkAt, nextNumber, firstNumber, lastNumber, kindNumber, flagNumber, technicalNumber, accountNumber, linkNumbers, lastRow, placeOf, numberAt}
 
 -- the places that an index has
 abbrev pub has : Place → Bool
@@ -64,13 +64,13 @@ unfoldable pub linkIn : List ℕ → ℕ → ℕ → ℕ → Link
 linkIn l s c p =
     record {
       security = s;
-      kind = numberAt l (p + 3);
+      kind = numberAt l (p + kindNumber);
       csd = c;
-      technical = technicalBy (numberAt l (p + 5));
-      flag = numberAt l (p + 4);
-      account = numberAt l (p + 6);
-      first = numberAt l (p + 1);
-      last = numberAt l (p + 2);
+      technical = technicalBy (numberAt l (p + technicalNumber));
+      flag = numberAt l (p + flagNumber);
+      account = numberAt l (p + accountNumber);
+      first = numberAt l (p + firstNumber);
+      last = numberAt l (p + lastNumber);
     }
 
 -- a list of links ends at this place: it is 0, or none where a link may begin
@@ -79,7 +79,7 @@ endsAt p = eqb p 0 || ltb lastRow p
 
 -- where the next older link stands; it stands before this one
 abbrev pub olderAt : List ℕ → ℕ → ℕ
-olderAt l p = cond (ltb (numberAt l (p + 0)) p) (numberAt l (p + 0)) 0
+olderAt l p = cond (ltb (numberAt l (p + nextNumber)) p) (numberAt l (p + nextNumber)) 0
 
 -- the links from a place on, each followed by the next older one; k of them at most
 unfoldable pub linksFrom : List ℕ → ℕ → ℕ → ℕ → ℕ → List Link

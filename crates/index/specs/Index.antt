@@ -83,7 +83,30 @@ abbrev pub technicalCode : Option Pair → ℕ
 technicalCode none = 0
 technicalCode (some p) = p .technical
 
--- how many numbers a link has: where the next older link of its CSD for its security stands, its days, kind, flag, technical issuer and account
+-- a link's numbers, by their places: where the next older link of its CSD for its security stands; its first and last day, kind, flag, technical issuer
+-- and account
+abbrev pub nextNumber : ℕ
+nextNumber = 0
+
+abbrev pub firstNumber : ℕ
+firstNumber = 1
+
+abbrev pub lastNumber : ℕ
+lastNumber = 2
+
+abbrev pub kindNumber : ℕ
+kindNumber = 3
+
+abbrev pub flagNumber : ℕ
+flagNumber = 4
+
+abbrev pub technicalNumber : ℕ
+technicalNumber = 5
+
+abbrev pub accountNumber : ℕ
+accountNumber = 6
+
+-- how many they are
 abbrev pub linkNumbers : ℕ
 linkNumbers = 7
 
@@ -135,21 +158,14 @@ abbrev pub newestCode : ℕ → ℕ → List Link → ℕ
 newestCode s c [] = 0
 newestCode s c (x ∷ older) = cond (isLink s c x) (rowAt (length older)) (newestCode s c older)
 
--- number f of a link, where the next older one stands at `next`
-abbrev pub numberOf : ℕ → Link → ℕ → ℕ
-numberOf next x zero = next
-numberOf next x (suc zero) = x .first
-numberOf next x (suc (suc zero)) = x .last
-numberOf next x (suc (suc (suc zero))) = x .kind
-numberOf next x (suc (suc (suc (suc zero)))) = x .flag
-numberOf next x (suc (suc (suc (suc (suc zero))))) = x .technical
-numberOf next x (suc (suc (suc (suc (suc (suc zero)))))) = x .account
-numberOf next x (suc (suc (suc (suc (suc (suc (suc f))))))) = 0
+-- the numbers of a link, where the next older one stands at `next`
+abbrev pub numbersOf : ℕ → Link → List ℕ
+numbersOf next x = next ∷ x .first ∷ x .last ∷ x .kind ∷ x .flag ∷ x .technical ∷ x .account ∷ []
 
--- the numbers of a link behind those that are older, which stand newest first
+-- number f of a link behind those that are older, which stand newest first
 abbrev pub linkCode : List Link → Option Link → ℕ → ℕ
 linkCode older none f = 0
-linkCode older (some x) f = numberOf (newestCode (x .security) (x .csd) older) x f
+linkCode older (some x) f = getD (numbersOf (newestCode (x .security) (x .csd) older) x) f 0
 
 -- the index of a directory's rows: the number at each place
 abbrev pub indexOf : Rows → Place → ℕ

@@ -20,7 +20,7 @@ ghost use mathlib.Core.Bool.{_&&_};
 ghost use Prim.Native.Nat.{_+_, _≤_, _<_};
 ghost use Rattle.rules.specs.Directory.{covers, pointsTo};
 ghost use Rattle.rules.specs.Entries.{hasDayIn, meets, defaultOn};
-ghost use Rattle.index.specs.Index.{newestAt, linkNumbers, lastRow, numberAt};
+ghost use Rattle.index.specs.Index.{newestAt, technicalNumber, linkNumbers, lastRow, numberAt};
 ghost use Rattle.index.specs.Asked.{read, technicalBy, linkIn, olderAt, leads, linksAt, asked, askedOn};
 ghost use Rattle.index.specs.Found.{leadingOf, leadIn, wants, foundIn, dayAfter};
 
@@ -74,7 +74,7 @@ fn older_link(index: &[u16; INDEX], link: u16) -> u16
 // The technical issuer of a link, hex FF beyond the bytes.
 fn technical_of(index: &[u16; INDEX], link: u16) -> u8
     requires { ⌜ link ≤ lastRow ⌝ }
-    ensures { λ r. ⌜ r ≡ technicalBy (numberAt (now (index .entry)) (link + 5)) ⌝ }
+    ensures { λ r. ⌜ r ≡ technicalBy (numberAt (now (index .entry)) (link + technicalNumber)) ⌝ }
 {
     let number = number_at(index, link, TECHNICAL);
     if 0xff < number {
