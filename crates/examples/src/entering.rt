@@ -10,10 +10,8 @@ use rules::Entered;
 use rules::Link;
 use rules::Pair;
 ghost use mathlib.Core.Path.{_≡_};
-ghost use lib.ListN.{set};
-ghost use Rattle.rules.specs.Stream.{bytes};
-ghost use Rattle.rules.specs.Entries.{csdRow, accountRow, pairRow, linkRow};
-ghost use Rattle.rules.specs.Outcomes.{enteredOn};
+ghost use Rattle.rules.specs.Entries.{csdRow, pairRow, linkRow};
+ghost use Rattle.examples.specs.Directories.{entering, csdBy, accountBy, pairBy, linkBy};
 
 // The links' last day: "01's example takes days 0 to 65,535 and day 0." (02)
 const LAST_DAY: u16 = 65_535;
@@ -23,7 +21,7 @@ pub const DAY: u16 = 0;
 
 // A CSD by one byte of its BIC.
 pub fn csd(external: u8, byte: u8) -> Csd
-    ensures { λ r. ⌜ r ≡ record { external = external; bic = set (bytes "AAAAXX00XXX") 7 byte } ⌝ }
+    ensures { λ r. ⌜ r ≡ csdBy external byte ⌝ }
 {
     let mut bic = *b"AAAAXX00XXX";
     bic[7] = byte;
@@ -31,7 +29,7 @@ pub fn csd(external: u8, byte: u8) -> Csd
 }
 
 pub fn pair(investor: u8, technical: u8, mirror: u16, omnibus: u16, served: u16) -> Pair
-    ensures { λ r. ⌜ r ≡ record { investor = investor; technical = technical; mirror = mirror; omnibus = omnibus; served = served } ⌝ }
+    ensures { λ r. ⌜ r ≡ pairBy investor technical mirror omnibus served ⌝ }
 {
     Pair {
         investor,
@@ -44,7 +42,7 @@ pub fn pair(investor: u8, technical: u8, mirror: u16, omnibus: u16, served: u16)
 
 // A link for the one security, on every day.
 pub fn link(kind: u8, csd: u8, technical: u8, flag: u8, account: u16) -> Link
-    ensures { λ r. ⌜ r ≡ record { security = 0; kind = kind; csd = csd; technical = technical; flag = flag; account = account; first = 0; last = 0xffff } ⌝ }
+    ensures { λ r. ⌜ r ≡ linkBy kind csd technical flag account ⌝ }
 {
     Link {
         security: 0,
@@ -65,25 +63,25 @@ pub fn after(entered: Entered) -> Directory
 }
 
 pub fn with_csd(directory: Directory, row: Csd) -> Directory
-    ensures { λ r. ⌜ r ≡ enteredOn directory (csdRow row) .directory ⌝ }
+    ensures { λ r. ⌜ r ≡ entering (csdRow row) directory ⌝ }
 {
     after(enter_csd(directory, row))
 }
 
 pub fn with_account(directory: Directory, csd: u8, kind: u8) -> Directory
-    ensures { λ r. ⌜ r ≡ enteredOn directory (accountRow (record { csd = csd; kind = kind })) .directory ⌝ }
+    ensures { λ r. ⌜ r ≡ entering (accountBy csd kind) directory ⌝ }
 {
     after(enter_account(directory, Account { csd, kind }))
 }
 
 pub fn with_pair(directory: Directory, row: Pair) -> Directory
-    ensures { λ r. ⌜ r ≡ enteredOn directory (pairRow row) .directory ⌝ }
+    ensures { λ r. ⌜ r ≡ entering (pairRow row) directory ⌝ }
 {
     after(enter_pair(directory, row))
 }
 
 pub fn with_link(directory: Directory, row: Link) -> Directory
-    ensures { λ r. ⌜ r ≡ enteredOn directory (linkRow row) .directory ⌝ }
+    ensures { λ r. ⌜ r ≡ entering (linkRow row) directory ⌝ }
 {
     after(enter_link(directory, row))
 }

@@ -1,8 +1,10 @@
-// What the example programs share: words, numbers, steps and answers printed, and a directory with one row more.
+// What the example programs share: words, numbers, steps and answers printed, a directory with one row more, and one that is entered row by row.
 
 mod printing; // printing.rt: words, numbers, steps and answers on standard output
 mod entering; // entering.rt: rows, and a directory with one of them entered
+mod directories; // directories.rt: a directory entered row by row
 
+pub use directories::wider;
 pub use entering::DAY;
 pub use entering::after;
 pub use entering::csd;

@@ -1,29 +1,18 @@
 // Derivation and settlement in a lent list of steps that is longer than any chain and full of other numbers. After each call the steps behind the K that
 // it writes, or all of them where it refuses, are held against what they were. The list is filled anew for each call.
-use desk::empty;
 use examples::DAY;
-use examples::after;
-use examples::csd;
-use examples::link;
-use examples::pair;
 use examples::put;
 use examples::put_answer;
 use examples::put_number;
 use examples::put_numbers;
 use examples::put_step;
-use examples::with_account;
-use examples::with_csd;
-use examples::with_link;
-use examples::with_pair;
+use examples::wider;
 use rules::ACCOUNTS;
 use rules::Answer;
 use rules::Directory;
 use rules::Half;
-use rules::NO_ACCOUNT;
-use rules::NO_CSD;
 use rules::POSITIONS;
 use rules::STEPS;
-use rules::Security;
 use rules::SidedHalf;
 use rules::Step;
 ghost use mathlib.Core.Path.{_≡_};
@@ -206,49 +195,6 @@ fn put_back(back: Back) {
     put_steps(back, count);
 }
 
-// ---- the directory
-
-// An investor CSD with its technical issuer: their pair for one participant, and a default link.
-fn joined(
-    directory: Directory,
-    investor: u8,
-    technical: u8,
-    mirror: u16,
-    omnibus: u16,
-    served: u16,
-) -> Directory {
-    let row = link(1, investor, technical, 1, NO_ACCOUNT);
-    with_link(
-        with_pair(
-            directory,
-            pair(investor, technical, mirror, omnibus, served),
-        ),
-        row,
-    )
-}
-
-// The worked example: CSD 0 has the participant 0 and the mirror 1; CSD 1 has the omnibus 2, the issuance account 3 and the participant 4.
-fn worked() -> Directory {
-    let csds = with_csd(with_csd(empty(), csd(0, b'0')), csd(0, b'1'));
-    let isin = *b"XS0000000009";
-    let listed = after(desk::enter_security(csds, Security { isin }));
-    let first = with_account(with_account(listed, 0, 0), 0, 2);
-    let second = with_account(with_account(with_account(first, 1, 1), 1, 4), 1, 0);
-    let issued = with_link(second, link(0, 1, NO_CSD, 1, 3));
-    joined(issued, 0, 1, 1, 2, 0)
-}
-
-// CSD 1 has another participant, 5; CSD 2, with the participant 6 and the mirror 7, is an investor in it by the omnibus 8; CSD 3, with the participant 9,
-// has no link.
-fn wider() -> Directory {
-    let csds = with_csd(
-        with_csd(with_account(worked(), 1, 0), csd(0, b'2')),
-        csd(0, b'3'),
-    );
-    let third = with_account(with_account(with_account(csds, 2, 0), 2, 2), 1, 1);
-    joined(with_account(third, 3, 0), 2, 1, 7, 8, 6)
-}
-
 // ---- the calls that are shown
 
 // The CSD of a participant.
@@ -295,27 +241,26 @@ fn show_derive(directory: Directory, lent: usize, delivering: Half, receiving: H
     put_back(derive(directory, others(), lent, delivering, receiving));
 }
 
-fn show_settle(
-    directory: Directory,
-    positions: &mut [i64],
-    cash: &mut [i64],
-    lent: usize,
-    quantity: u64,
-)
+// A settlement of units of the 100 that are brought in before it.
+fn show_settle(directory: Directory, lent: usize, quantity: u64)
     requires { ⌜ lent ≤ size ⌝ }
 {
+    let mut positions = [0i64; POSITIONS];
+    let mut cash = [0i64; ACCOUNTS];
     let delivering = half(4, 0, quantity);
     let receiving = half(0, 4, quantity);
+    desk::bring_in(directory, &mut positions, 4, 0, 100, DAY);
     put_call(b"settle ", lent, delivering, receiving);
-    put_back(settle(
+    let back = settle(
         directory,
-        positions,
-        cash,
+        &mut positions,
+        &mut cash,
         others(),
         lent,
         delivering,
         receiving,
-    ));
+    );
+    put_back(back);
 }
 
 // A half of 40 units with its side.
@@ -349,15 +294,21 @@ fn show_derive_sided(directory: Directory, lent: usize, first: SidedHalf, second
     put_back(derive_sided(directory, others(), lent, first, second));
 }
 
-fn show_settle_sided(
-    directory: Directory,
-    positions: &mut [i64],
-    cash: &mut [i64],
-    first: SidedHalf,
-    second: SidedHalf,
-) {
+fn show_settle_sided(directory: Directory, first: SidedHalf, second: SidedHalf) {
+    let mut positions = [0i64; POSITIONS];
+    let mut cash = [0i64; ACCOUNTS];
+    desk::bring_in(directory, &mut positions, 4, 0, 100, DAY);
     put_sided_call(b"settle ", LIST, first, second);
-    put_back(settle_sided(directory, positions, cash, others(), LIST, first, second));
+    let back = settle_sided(
+        directory,
+        &mut positions,
+        &mut cash,
+        others(),
+        LIST,
+        first,
+        second,
+    );
+    put_back(back);
 }
 
 fn derivations(directory: Directory) {
@@ -381,24 +332,17 @@ fn sided_derivations(directory: Directory) {
     show_derive_sided(directory, STEPS - 1, sided(0, 4, 0), sided(1, 0, 4));
 }
 
-fn settlements(directory: Directory, positions: &mut [i64], cash: &mut [i64]) {
-    desk::bring_in(directory, positions, 4, 0, 100, DAY);
-    show_settle(directory, positions, cash, LIST, 40);
-    show_settle(directory, positions, cash, LIST, 61);
-    show_settle(directory, positions, cash, 3, 40);
-}
-
-fn sided_settlements(directory: Directory, positions: &mut [i64], cash: &mut [i64]) {
-    show_settle_sided(directory, positions, cash, sided(1, 0, 4), sided(0, 4, 0));
-    show_settle_sided(directory, positions, cash, sided(1, 0, 4), sided(1, 4, 0));
+fn settlements(directory: Directory) {
+    show_settle(directory, LIST, 40);
+    show_settle(directory, LIST, 101);
+    show_settle(directory, 3, 40);
+    show_settle_sided(directory, sided(1, 0, 4), sided(0, 4, 0));
+    show_settle_sided(directory, sided(1, 0, 4), sided(1, 4, 0));
 }
 
 fn main() {
-    let mut positions = [0i64; POSITIONS];
-    let mut cash = [0i64; ACCOUNTS];
     let directory = wider();
     derivations(directory);
     sided_derivations(directory);
-    settlements(directory, &mut positions, &mut cash);
-    sided_settlements(directory, &mut positions, &mut cash);
+    settlements(directory);
 }
