@@ -1,14 +1,14 @@
 -- One link more: its numbers at the next number, it as the newest of its CSD for its security, and the count.
-use Prim.Native.Nat.{ℕ, zero, suc, _+_, _<_}
+use Prim.Native.Nat.{ℕ, zero, suc, _<_}
 use mathlib.Core.Path.{_≡_, refl, sym, ap, subst, _∙_}
 use mathlib.Core.Logic.{_≢_}
-use mathlib.Core.Bool.{true, false, cond}
+use mathlib.Core.Bool.{false, cond}
 use mathlib.Core.List.{List, [], _∷_, _++_, reverse}
-use mathlib.Core.Option.{Option, none, some}
+use mathlib.Core.Option.{Option}
 use native.Mathlib.Omega.{arith}
 use native.Mathlib.Decide.{ℕ-discrete, decLt}
 use borrow.Author.Tests.{lt-ltb}
-use lib.ListN.{length, getD, take, getElem?, length-reverse}
+use lib.ListN.{length, getD, take, length-reverse}
 use Rattle.rules.specs.declared.Link.{Link}
 use Rattle.rules.specs.declared.Directory.{Directory}
 use Rattle.rules.specs.Tests.{firstOf}
@@ -19,7 +19,7 @@ use Rattle.rules.proofs.Basics.{impossible, untrue}
 use Rattle.rules.proofs.RowTests.{says-link}
 use Rattle.rules.proofs.Accounts.{security-small}
 use Rattle.rules.proofs.NewLinks.{NewLink, accepted-link}
-use Rattle.index.specs.Index.{Place, linkCount, newestAt, linkAt, linkNumbers, rowAt, newestCode, linkCode, numbersOf, Inside, indexOf}
+use Rattle.index.specs.Index.{linkCount, newestAt, linkAt, linkNumbers, rowAt, newestCode, linkCode, numbersOf, Inside, indexOf}
 use Rattle.index.proofs.LookingUp.{facts, csd-small}
 use Rattle.index.proofs.LinkList.{reversed}
 use Rattle.index.proofs.Laws.{unknown, one-more-row, row-new, row-old}

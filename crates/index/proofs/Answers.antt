@@ -8,13 +8,13 @@ use mathlib.Core.Option.{Option, none, some}
 use native.Mathlib.Omega.{arith}
 use lib.Dec.{eqb, ltb, leb}
 use lib.ListN.{length, take, getElem?, List·getD-eq-default}
-use borrow.Author.Tests.{ltb-false, lt-ltb, le-ltb, lt-leb, ne-eqb}
+use borrow.Author.Tests.{ltb-false, lt-ltb, le-ltb, ne-eqb}
 use Rattle.rules.specs.declared.Account.{Account}
 use Rattle.rules.specs.declared.Pair.{Pair}
 use Rattle.rules.specs.declared.Link.{Link}
 use Rattle.rules.specs.declared.Directory.{Directory}
 use Rattle.rules.specs.Tests.{any, find, only, isRow, isFull}
-use Rattle.rules.specs.Directory.{Rows, rowsOf, csdLimit, securityLimit, accountLimit, pairLimit, linkLimit, noAccount, external, isKind, inBooks, serves, sameDuo, pairOf, isServed, isApart, noCsd, onDay, rowsOn, covers, issues, defaults, pointsTo, isLink, linksOf, linksFor, hasIssuer, hasLinkTo, issuerLink, defaultLink}
+use Rattle.rules.specs.Directory.{Rows, rowsOf, csdLimit, securityLimit, accountLimit, pairLimit, linkLimit, external, isKind, inBooks, serves, sameDuo, pairOf, isServed, isApart, noCsd, onDay, rowsOn, covers, issues, defaults, pointsTo, isLink, linksOf, linksFor, hasIssuer, hasLinkTo, issuerLink, defaultLink}
 use Rattle.rules.specs.Lookups.{ask, technicalOf, accountOf, csdOf, homeOf, issuance}
 use Rattle.rules.proofs.Basics.{impossible, clash, untrue, and-second, or-left, or-right, or-cases, eqb-is, find-some, find-none}
 use Rattle.rules.proofs.FirstRow.{none-found, only-found}

@@ -2,17 +2,16 @@
 -- are the same list without the others.
 use Prim.Native.Nat.{ℕ, zero, suc, _+_, _≤_, _<_}
 use mathlib.Core.Path.{_≡_, refl, sym, ap, subst, _∙_}
-use mathlib.Core.Bool.{Bool, true, false, _&&_, cond}
+use mathlib.Core.Bool.{Bool, true, false, cond}
 use mathlib.Core.List.{List, [], _∷_, _++_, reverse, reverse-cons, List·Memᴰ, List·Memᴰ·head, List·Memᴰ·tail}
-use mathlib.Core.Option.{Option, none, some}
+use mathlib.Core.Option.{Option, some}
 use native.Mathlib.Omega.{arith}
 use native.Mathlib.Nat.{min-eq-left}
-use lib.Dec.{eqb, ltb}
 use lib.ListN.{length, take, getElem?, length-reverse, length-take}
 use borrow.Author.Tests.{lt-ltb, le-ltb}
 use Rattle.rules.specs.declared.Link.{Link}
 use Rattle.rules.specs.Tests.{only}
-use Rattle.rules.specs.Directory.{Rows, csdLimit, linkLimit, noCsd, covers, isLink, linksOf, linksFor}
+use Rattle.rules.specs.Directory.{linkLimit, covers, isLink, linksOf, linksFor}
 use Rattle.rules.proofs.Basics.{impossible}
 use Rattle.rules.proofs.RowTests.{says-link}
 use Rattle.index.specs.Index.{nextNumber, firstNumber, lastNumber, kindNumber, flagNumber, technicalNumber, accountNumber, linkNumbers, rowAt, newestCode, linkCode, numberAt}

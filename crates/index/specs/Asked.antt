@@ -10,7 +10,7 @@ use Rattle.rules.specs.declared.Pair.{Pair}
 use Rattle.rules.specs.declared.Link.{Link}
 use Rattle.rules.specs.declared.Directory.{Directory}
 use Rattle.rules.specs.Tests.{any, find, only}
-use Rattle.rules.specs.Directory.{rowsOf, rowsOn, covers, issues, defaults, pointsTo, csdLimit, securityLimit, accountLimit, pairLimit, linkLimit, noCsd, noAccount}
+use Rattle.rules.specs.Directory.{rowsOf, rowsOn, covers, issues, defaults, pointsTo, csdLimit, securityLimit, accountLimit, pairLimit, linkLimit, noCsd}
 use Rattle.rules.specs.Lookups.{Lookups, technicalOf, accountOf, ask}
 use Rattle.index.specs.Index.{Indexed, Place, csdCount, securityCount, accountCount, pairCount, linkCount, typeAt, homeAt, kindAt, mirrorAt, omnibusAt, investorAt, technicalAt, servedAt, newestAt, linkAt, nextNumber, firstNumber, lastNumber, kindNumber, flagNumber, technicalNumber, accountNumber, linkNumbers, lastRow, placeOf, numberAt}
 

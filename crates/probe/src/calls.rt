@@ -28,7 +28,7 @@ ghost use mathlib.Core.List.{[]};
 ghost use mathlib.Core.Option.{some};
 ghost use lib.ListN.{length};
 ghost use Prim.Native.Nat.{_+_, _<_};
-ghost use Rattle.rules.specs.Calls.{desk, isAccepted};
+ghost use Rattle.rules.specs.Calls.{desk};
 ghost use Rattle.rules.specs.Stream.{widthOf, callOf, transcript, Printed};
 ghost use Rattle.rules.specs.Outcomes.{holding, settlementOn, derivationOn, blanks, replyOf};
 ghost use Rattle.wire.specs.Operands.{halvesIn, dayIn};

@@ -3,7 +3,7 @@ use mathlib.Core.Path.{_≡_, ap}
 use Rattle.rules.specs.declared.Directory.{Directory}
 use Rattle.rules.specs.Tests.{isFull, firstOf}
 use Rattle.rules.specs.Directory.{rowsOf}
-use Rattle.rules.specs.Entries.{Row, csdRow, securityRow, accountRow, pairRow, linkRow, rowConditions, accountConditions, pairConditions, linkConditions}
+use Rattle.rules.specs.Entries.{Row, csdRow, securityRow, accountRow, pairRow, linkRow, rowConditions, accountConditions, pairConditions}
 use Rattle.index.specs.Index.{csdCount, securityCount, linkCount}
 use Rattle.index.proofs.Answers.{reads, answers}
 use Rattle.refusals.specs.Kept.{Kept, Keeps, csdRefusalIn, securityRefusalIn, accountRefusalIn, pairRefusalIn, linkRefusalIn, refusalIn}

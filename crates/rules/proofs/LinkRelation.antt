@@ -12,7 +12,7 @@ use Rattle.rules.specs.Tests.{isRow, isFull}
 use Rattle.rules.specs.Directory.{Rows, linkLimit, noCsd, noAccount, external, isKind, inBooks, issues, defaults, pointsTo, linksFor, covers}
 use Rattle.rules.specs.Lookups.{ask}
 use Rattle.rules.specs.Entries.{meets, anyLink, dayCount, defaultEachDay, technicalUnknown, accountUnknown, technicalEntered, wrongIssuance, issuerBroken, flagBroken, alternativeOutside, investorBroken, linkUnknown, linkConditions}
-use Rattle.rules.specs.Relations.{Is, External, InT2S, IssuerOf, DefaultOf, LinkTo}
+use Rattle.rules.specs.Relations.{Is, External, InT2S, DefaultOf}
 use Rattle.rules.specs.Refusals
 use Rattle.rules.specs.Refusals.{NoRow, Linked, ValidOn, ShareDay, LinkRefused}
 use Rattle.rules.proofs.Basics.{and-both, and-true, and-first, or-none, or-right, eqb-is, eqb-true, ltb-not}

@@ -3,7 +3,7 @@ use mathlib.Core.Path.{_≡_, refl, sym}
 use mathlib.Core.Logic.{_≢_, _⊎_, inl, inr}
 use mathlib.Core.Bool.{Bool, true, false, not, _&&_, true≢false}
 use mathlib.Core.List.{List, [], _∷_, List·Memᴰ, List·Memᴰ·head, List·Memᴰ·tail}
-use Prim.Native.Nat.{ℕ, zero, suc, _≤_, _<_, min}
+use Prim.Native.Nat.{ℕ, zero, suc, _≤_, min}
 use native.Mathlib.Omega.{arith}
 use lib.Dec.{eqb, leb}
 use lib.ListN.{length, take, length-take}
@@ -13,7 +13,7 @@ use Rattle.rules.specs.Entries as Entry
 use Rattle.rules.specs.Directory.{Rows, rowsOf, csdLimit, securityLimit, accountLimit, pairLimit, linkLimit, noAccount, linksOf, onDay, rowsOn, external, inBooks, uses, serves, sameDuo, usesApart, isServed, isApart, issues, defaults, linksFor}
 use Rattle.rules.specs.Refusals.{SharesBoth, ShareDay}
 use Rattle.rules.specs.Entries.{accountsSound, pairsSound, linksSound, withinLimits, soundRows, sound}
-use Rattle.rules.proofs.Basics.{clash, unnot-false, and-both, and-true, and-second, or-cases, eqb-is, eqb-true, eqb-false, ltb-is, leb-is, any-true, any-none}
+use Rattle.rules.proofs.Basics.{clash, unnot-false, and-both, and-true, and-second, or-cases, eqb-is, eqb-true, eqb-false, leb-is, any-true, any-none}
 use Rattle.rules.proofs.RowTests.{says-defaults}
 use Rattle.rules.proofs.Days.{links-in, of-day, says-shares}
 use Rattle.rules.proofs.Facts.{PairFacts, LinkFacts, Facts}

@@ -1,5 +1,5 @@
 -- Commands and program, as document 01 has them: operands, commands, and the whole text that `realign` prints. Assumes nothing.
-use Prim.Native.Nat.{ℕ, zero, suc, _+_, _*_, _-_, _/_, _%_, _≤_}
+use Prim.Native.Nat.{ℕ, zero, suc, _+_, _*_, _/_, _%_, _≤_}
 use Prim.Native.Char.{code}
 use Prim.Native.String.{String, [] as none′, _∷_ as _then_}
 use mathlib.Core.Path.{_≡_}

@@ -1,14 +1,14 @@
 -- Where no CSD of a default walk is the target or has a link to it, the directed walk is the default walk.
 use Prim.Native.Nat.{ℕ, zero, suc}
 use mathlib.Core.Path.{_≡_, refl, _∙_}
-use mathlib.Core.Bool.{false, not, _||_, and-false}
-use mathlib.Core.List.{[], _∷_}
+use mathlib.Core.Bool.{false, not, and-false}
+use mathlib.Core.List.{[]}
 use lib.Dec.{eqb}
 use Rattle.rules.specs.declared.Hop.{Hop}
 use Rattle.rules.specs.declared.Hop.the-variants.{Ends, On}
 use Rattle.rules.specs.Tests.{any}
 use Rattle.rules.specs.Lookups.{Lookups}
-use Rattle.rules.specs.Walks.{Walk, defaultHop, directedHop, hopped, walk}
+use Rattle.rules.specs.Walks.{defaultHop, directedHop, hopped, walk}
 use Rattle.rules.proofs.Basics.{or-none}
 use Rattle.walks.specs.Routes.{turns}
 
