@@ -12,7 +12,7 @@ use Rattle.rules.specs.Directory.{Rows, rowsOf, rowsOn, isKind}
 use Rattle.rules.specs.Entries.{sound}
 use Rattle.rules.specs.Lookups.{homeOf, ask}
 use Rattle.rules.specs.Chain.{chained, stepsOf, chainConditions, stepLimit}
-use Rattle.rules.specs.Booking.{Way, positionCount, cashCount, contra, moveBy, moveChain, payShort, unitsShort, unitsBeyond}
+use Rattle.rules.specs.Booking.{Way, positionCount, cashCount, contra, moveBy, moveChain, payment, payShort, unitsShort, unitsBeyond, cashBeyond}
 use Rattle.rules.specs.Calls.{Halves, Store, Call, move, pay, settle, misfit, coreConditions, deskConditions, delivering, receiving, sideUnknown, sameSide, halvesConditions, halvesChain, deriveConditions, bookConditions}
 use Rattle.rules.specs.Refusals.{Delivers}
 use Rattle.rules.proofs.Basics.{impossible, unnot-false, or-none, eqb-is, Quiet, loud}
@@ -51,6 +51,7 @@ pub record MoveFacts (st : Store) (w : Way) (a s q day : ℕ) : Type 0 where
   pub against : Contra (rowsOn day (st .directory)) a other
   pub chain : stepsOf (moveChain (ask (rowsOn day (st .directory))) w a s) ≡ moveSteps (rowsOn day (st .directory)) w a other
   pub transfer : Transfer (rowsOn day (st .directory)) (st .positions) (source w a other) (moveSteps (rowsOn day (st .directory)) w a other) (target w a other) s q
+  pub limits : unitsBeyond (st .positions) s q (moveSteps (rowsOn day (st .directory)) w a other) ≡ false
 
 -- its chain is one step against the contra account
 move-chain : (r : Rows) (w : Way) (a s : ℕ) (xs : List Step) → moveChain (ask r) w a s ≡ chained xs
@@ -80,6 +81,7 @@ move-facts st w a s q day free =
         to = target-plain rows a (one .0) holder against w;
         enough = units-held (rows .accounts) (st .positions) s q (moveSteps rows w a (one .0)) (rw (one .2) at (parts .1 .0));
       };
+      limits = rw (one .2) at (parts .1 .1 .0);
     }
   where
     rows : Rows
@@ -113,6 +115,7 @@ pub record PayFacts (st : Store) (w : Way) (a m : ℕ) : Type 0 where
   pub size : length (st .cash) ≡ cashCount
   pub account : a < cashCount
   pub covered : payShort w (st .cash) a m ≡ false
+  pub limit : cashBeyond (st .cash) a (payment w m) ≡ false
 
 pub pay-facts : (st : Store) (w : Way) (a m : ℕ) → firstOf (deskConditions (pay w a m) st) ≡ 0 → PayFacts st w a m
 unfolding misfit
@@ -123,6 +126,7 @@ pay-facts st w a m free =
       size = fitting (length (st .cash)) cashCount (all .0);
       account = kind-small (rowsOn 0 (st .directory)) (facts-of (pay w a m) st free 0) a 0 (unnot-false (isKind (rows .accounts) a 0) (all .1 .1 .1 .1 .0));
       covered = all .1 .1 .1 .1 .1 .0;
+      limit = all .1 .1 .1 .1 .1 .1 .0;
     }
 
 -- ---- a settlement

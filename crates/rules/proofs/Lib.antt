@@ -60,8 +60,10 @@ pub mod Conditions
 pub mod Refusals
 pub mod Agreement
 pub mod Permissions
+pub mod TurnedChain
 pub mod Positions
 pub mod Bookings
+pub mod Restoring
 pub mod Payments
 pub mod Moves
 pub mod Accepted
@@ -72,10 +74,12 @@ pub mod Balance
 pub mod BalanceEntries
 pub mod Funds
 pub mod EmptyStore
+pub mod Limits
 pub mod Kept
 pub mod Lists
 pub mod SidesWritten
 pub mod Running
+pub mod TakingBack
 pub mod Segregated
 pub mod Dated
 pub mod Theorems

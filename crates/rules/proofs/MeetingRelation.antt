@@ -1,9 +1,9 @@
 -- The first shared CSD that the definitions find is the meeting of the relations: it stands in D's path behind CSDs of which none is
 -- shared, and a path cut behind its first place is the part before it and itself.
 use mathlib.Core.Path.{_≡_, refl, sym, ap, _∙_, subst}
-use mathlib.Core.Logic.{_≢_}
+use mathlib.Core.Logic.{_≢_, _⊎_, inl, inr}
 use mathlib.Core.Bool.{Bool, true, false, not, _&&_, cond}
-use mathlib.Core.List.{List, [], _∷_, _++_, List·Memᴰ, List·Memᴰ·head, List·Memᴰ·tail, Memᴰ·append-right}
+use mathlib.Core.List.{List, [], _∷_, _++_, List·Memᴰ, List·Memᴰ·head, List·Memᴰ·tail, List·Memᴰ·append-cases, Memᴰ·append-left, Memᴰ·append-right}
 use mathlib.Core.Option.{Option, none, some}
 use Prim.Native.Nat.{ℕ}
 use lib.Dec.{eqb}
@@ -11,14 +11,15 @@ use Rattle.rules.specs.Types.{WalkEnd, Inside, Outside, NoLink, TooLong}
 use Rattle.rules.specs.Tests.{find}
 use Rattle.rules.specs.Directory.{Rows, external}
 use Rattle.rules.specs.Lookups.{Lookups, ask}
-use Rattle.rules.specs.Walks.{Walk, defaultWalk, arrived}
+use Rattle.rules.specs.Walks.{Walk, defaultHop, defaultWalk, arrived}
 use Rattle.rules.specs.Chain.{isNamed, firstShared, shared, upTo}
-use Rattle.rules.specs.Relations.{Walks, DefaultWalk, Meets, NoMeeting}
+use Rattle.rules.specs.Relations.{InT2S, Walks, DefaultWalk, Meets, NoMeeting}
 use Rattle.rules.proofs.Basics.{impossible, clash, unnot, untrue, and-both, and-true, eqb-is, eqb-true, eqb-false, find-none, any-true, any-some}
 use Rattle.rules.proofs.FirstRow.{FirstIn, only-found, first-found, found-first}
 use Rattle.rules.proofs.RowTests.{not-external, in-t2s}
 use Rattle.rules.proofs.Facts.{Facts}
-use Rattle.rules.proofs.WalkRelation.{walks-end, default-walk, walk-default}
+use Rattle.rules.proofs.Runs.{Runs, runs-apart}
+use Rattle.rules.proofs.WalkRelation.{walks-end, walks-runs, default-walk, walk-default}
 
 -- ---- paths
 pub named-in : (path : List ℕ) (c : ℕ) → isNamed path c ≡ true → List·Memᴰ c path
@@ -155,3 +156,43 @@ module _ (r : Rows) (s D R : ℕ) where
       let alone : find (isShared (ask r) down) up ≡ none
       = rw (default-walk r s F D up e w, default-walk r s F R down g v, a, b) at (no-meeting never) in
       clash (isShared (ask r) down c) (in-shared down c x j) (find-none (isShared (ask r) down) up alone c i)
+
+-- ---- the same from the other side
+
+-- Two walks go on alike from where they meet, so that the first CSD of the one that the other names is the first of the other that the one names.
+pub meets-turned : (r : Rows) → Facts r → (s D R : ℕ) (up down : List ℕ) → Meets (r .csds) (r .links) s D R up down → Meets (r .csds) (r .links) s R D down up
+meets-turned r F s D R up down x =
+    record {
+      meeting = m;
+      before = x .beneath;
+      after = x .above;
+      beneath = x .before;
+      above = x .after;
+      deliveringEnd = x .receivingEnd;
+      receivingEnd = x .deliveringEnd;
+      delivering = x .receiving;
+      receiving = x .delivering;
+      deliveringArrived = x .receivingArrived;
+      receivingArrived = x .deliveringArrived;
+      inT2S = x .inT2S;
+      first = λ c i t j. earlier c i t (List·Memᴰ·append-cases (x .before) j);
+      once = λ i. x .first m i (x .inT2S) (Memᴰ·append-right (x .beneath) (List·Memᴰ·head refl));
+      upward = x .downward;
+      downward = x .upward;
+    }
+  where
+    m : ℕ
+    m = x .meeting
+
+    runs : {c : ℕ} (path : List ℕ) (e : WalkEnd) → DefaultWalk (r .csds) (r .links) s c path e → Runs (defaultHop (ask r) s) c path e
+    runs {c} path e w = walks-runs r s F c path e (w .walks)
+
+    earlier : (c : ℕ) → List·Memᴰ c (x .beneath) → InT2S (r .csds) c → List·Memᴰ c (x .before) ⊎ List·Memᴰ c (m ∷ x .after) → ⊥
+    earlier c i t (inl j) = x .first c j t (Memᴰ·append-left (m ∷ x .above) i)
+    earlier c i t (inr (List·Memᴰ·head e)) = x .once (rw e at i)
+    earlier c i t (inr (List·Memᴰ·tail j)) =
+        runs-apart (defaultHop (ask r) s) D (x .before) (x .after) (x .deliveringEnd) R (x .beneath) (x .above) (x .receivingEnd) m
+        (runs (x .before ++ (m ∷ x .after)) (x .deliveringEnd) (x .delivering)) (runs (x .beneath ++ (m ∷ x .above)) (x .receivingEnd) (x .receiving)) c j i
+
+pub apart-turned : (r : Rows) → Facts r → (s D R : ℕ) → NoMeeting (r .csds) (r .links) s D R → NoMeeting (r .csds) (r .links) s R D
+apart-turned r F s D R never up down x = never down up (meets-turned r F s R D up down x)

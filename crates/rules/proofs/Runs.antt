@@ -2,10 +2,10 @@
 -- counter runs out; and none names a CSD twice, since the way on from a CSD depends on the CSD alone: it would never end.
 use mathlib.Core.Path.{_≡_, refl, ap}
 use mathlib.Core.Logic.{_≢_}
-use mathlib.Core.List.{List, [], _∷_, List·Memᴰ, List·Memᴰ·head, List·Memᴰ·tail}
-use Prim.Native.Nat.{ℕ, zero, suc, _≤_}
+use mathlib.Core.List.{List, [], _∷_, _++_, List·Memᴰ, List·Memᴰ·head, List·Memᴰ·tail}
+use Prim.Native.Nat.{ℕ, zero, suc, _≤_, _<_}
 use native.Mathlib.Omega.{arith}
-use lib.ListN.{length}
+use lib.ListN.{length, length-append}
 use Rattle.rules.specs.Types.{Hop, Ends, On, WalkEnd, TooLong}
 use Rattle.rules.specs.Walks.{hopped, walk}
 use Rattle.rules.proofs.Basics.{impossible}
@@ -68,6 +68,40 @@ module _ (h : ℕ → Hop) where
     where
       again : (more : List ℕ) × Runs c more e × (length more ≤ length rest) → ⊥
       again f = omega (arith, f .2, same-length c (f .0) (c ∷ rest) e e (f .1) (goes q w))
+
+  -- ---- two walks that name one CSD
+
+  -- past the first of the CSDs before m
+  runs-next : (c u : ℕ) (us : List ℕ) (m : ℕ) (vs : List ℕ) (e : WalkEnd) → Runs c (u ∷ (us ++ (m ∷ vs))) e → (n : ℕ) × Runs n (us ++ (m ∷ vs)) e
+  runs-next c u [] m vs e (goes {n = n} q w) = (n, w)
+  runs-next c u (x ∷ us) m vs e (goes {n = n} q w) = (n, w)
+
+  -- from m on
+  runs-on : (c : ℕ) (us : List ℕ) (m : ℕ) (vs : List ℕ) (e : WalkEnd) → Runs c (us ++ (m ∷ vs)) e → Runs m (m ∷ vs) e
+  runs-on c [] m vs e (ends q) = ends q
+  runs-on c [] m vs e (goes q w) = goes q w
+  runs-on c (u ∷ us) m vs e w = let k = runs-next c u us m vs e w in runs-on (k .0) us m vs e (k .1)
+
+  -- from a CSD before m, which is longer
+  runs-before : (c : ℕ) (us : List ℕ) (m : ℕ) (vs : List ℕ) (e : WalkEnd) → Runs c (us ++ (m ∷ vs)) e → (x : ℕ) → List·Memᴰ x us
+      → (rest : List ℕ) × Runs x rest e × (length (m ∷ vs) < length rest)
+  runs-before c (u ∷ us) m vs e w x (List·Memᴰ·head f) =
+      (u ∷ (us ++ (m ∷ vs)), rw f (runs-on c [] u (us ++ (m ∷ vs)) e w), omega (arith, length-append us (m ∷ vs)))
+  runs-before c (u ∷ us) m vs e w x (List·Memᴰ·tail i) = let k = runs-next c u us m vs e w in runs-before (k .0) us m vs e (k .1) x i
+
+  -- a CSD behind m in one walk is not before it in another: it would lead to itself
+  pub runs-apart : (c : ℕ) (ts : List ℕ) (ys : List ℕ) (d : WalkEnd) (k : ℕ) (us : List ℕ) (vs : List ℕ) (e : WalkEnd) (m : ℕ) → Runs c (ts ++ (m ∷ ys)) d → Runs k (us ++ (m ∷ vs)) e
+      → (x : ℕ) → List·Memᴰ x ys → List·Memᴰ x us → ⊥
+  runs-apart c ts ys d k us vs e m w v x i j =
+      let behind = runs-from m x (m ∷ ys) d (runs-on c ts m ys d w) (List·Memᴰ·tail i) in
+      let before = runs-before k us m vs e v x j in
+      omega (
+        arith,
+        behind .2,
+        before .2,
+        same-length x (behind .0) (before .0) d e (behind .1) (before .1),
+        same-length m (m ∷ ys) (m ∷ vs) d e (runs-on c ts m ys d w) (runs-on k us m vs e v),
+      )
 
   pub runs-upward : (c : ℕ) (path : List ℕ) (e : WalkEnd) → Runs c path e → Upward c path
   runs-upward c path e (ends q) = record { starts = ([], refl); once = runs-once c path e (ends q) }

@@ -11,7 +11,7 @@ use Rattle.rules.specs.Identifiers.{isinSum, isinChecks, isinSumLeft}
 use Rattle.rules.specs.Directory.{Rows, onDay, noCsd, noAccount}
 use Rattle.rules.specs.Entries.{csdRow, securityRow, accountRow, pairRow, linkRow, soundRows}
 use Rattle.rules.specs.Lookups.{ask}
-use Rattle.rules.specs.Chain.{Chain, chained, unchained, chain, generated}
+use Rattle.rules.specs.Chain.{Chain, chained, unchained, step, chain, generated}
 use Rattle.rules.specs.Booking.{incoming, heldIn}
 use Rattle.rules.specs.Calls.{ordered, Call, enter, move, settle, Item, run}
 use Rattle.rules.specs.Stream.{bytes, programSteps, transcript}
@@ -19,10 +19,10 @@ use Rattle.rules.specs.Stream.{bytes, programSteps, transcript}
 -- ---- chains: "I, J issuers; X, Y external; → default"
 
 -- CSDs A, B, C, D, I, J in T2S, and X, Y external
-abbrev A : ℕ
+abbrev pub A : ℕ
 A = 0
 
-abbrev B : ℕ
+abbrev pub B : ℕ
 B = 1
 
 abbrev C : ℕ
@@ -163,6 +163,20 @@ passed (unchained n) = refused n
 abbrev pub derived : Example → Passed
 derived e = passed (chain (ask (onDay 0 (drawn (e .links)))) 0 (e .from * 3) (e .to * 3 + 1))
 
+-- ---- the way back: "where both reach, the way back may be another chain" (02)
+
+-- A→C→I and B→J, and alternatives C to B and B to A: the walk directed from A to B reaches, and so does the one from B to A
+unfoldable pub bothReach : Rows
+bothReach = drawn (issuer I ∷ issuer J ∷ (A ⟶ C) ∷ (C ⟶ I) ∷ (B ⟶ J) ∷ (C ⇢ B) ∷ (B ⇢ A) ∷ [])
+
+-- the chain from A's participant 0 to B's participant 4: A C B
+abbrev pub wayThere : List Step
+wayThere = step A 0 18 ∷ step C 19 24 ∷ step B 25 4 ∷ []
+
+-- the chain from 4 to 0: B A
+abbrev pub wayBack : List Step
+wayBack = step B 4 26 ∷ step A 27 0 ∷ []
+
 -- ---- the sample run
 
 -- a half of the sample's settlement
@@ -249,6 +263,12 @@ sampleOutput = outputWith (bytes "booked 2")
 pub record Starred : Type 0 where
   pub chains : map derived examples ≡ map (λ (e : Example). e .gives) examples
   pub sound : map (λ (e : Example). soundRows (drawn (e .links))) examples ≡ map (λ (e : Example). true) examples
+
+-- a sound directory in which both directed walks reach, with the chain there and the chain back
+pub record BothReach : Type 0 where
+  pub sound : soundRows bothReach ≡ true
+  pub there : chain (ask (onDay 0 bothReach)) 0 0 4 ≡ chained wayThere
+  pub back : chain (ask (onDay 0 bothReach)) 0 4 0 ≡ chained wayBack
 
 -- "XS0000000009 and XS0000000017 are valid, XS0000000008 is not."; "the ISIN rule is shown once over any length"
 pub record IsinShown : Type 0 where

@@ -1,24 +1,25 @@
 -- What document 02 asks to be shown, a section for each request. Each claim is proved in proofs/.
 use mathlib.Core.Path.{_≡_}
-use mathlib.Core.List.{List, [], _∷_, _++_, map, List·Memᴰ}
+use mathlib.Core.List.{List, [], _∷_, _++_, map, reverse, List·Memᴰ}
 use mathlib.Core.Option.{Option, none, some}
 use mathlib.Core.Bool.{true}
-use Prim.Native.Nat.{ℕ, _+_, _-_, _%_}
+use Prim.Native.Nat.{ℕ, _+_, _-_, _%_, _≤_, _<_}
 use lib.Dec.{eqb}
 use lib.ListN.{length, take}
-use Rattle.rules.specs.Types.{Csd, Account, Pair, Link, Half, SidedHalf, Step, Accepted, Refused}
+use Rattle.rules.specs.Types.{Csd, Account, Pair, Link, Directory, Half, SidedHalf, Step, Accepted, Booked, Refused}
 use Rattle.rules.specs.Tests.{firstOf}
 use Rattle.rules.specs.Identifiers.{byteAt, sameBic, isinChecks, isinSumLeft}
-use Rattle.rules.specs.Directory.{Rows, linksOf, onDay, rowsOn, noCsd, noAccount}
-use Rattle.rules.specs.Lookups.{ask}
+use Rattle.rules.specs.Directory.{Rows, linksOf, rowsOf, onDay, rowsOn, noCsd, noAccount, securityLimit}
+use Rattle.rules.specs.Lookups.{homeOf, ask}
 use Rattle.rules.specs.Entries.{csdRow, linkRow, pairConditions, rowConditions, soundRows, sound}
-use Rattle.rules.specs.Chain.{Chain, chained, unchained, step, chain}
-use Rattle.rules.specs.Booking.{Way, contra}
-use Rattle.rules.specs.Calls.{Halves, ordered, sided, Store, Outcome, Item, Call, enter, move, settle, derive, desk, run}
-use Rattle.rules.specs.Refusals.{Delivers, Uses, SharesBoth, Linked, ValidOn}
-use Rattle.rules.specs.Demands.{PairEntered, made}
+use Rattle.rules.specs.Chain.{Chain, chained, unchained, step, chain, stepLimit}
+use Rattle.rules.specs.Booking.{Way, heldIn, cashOn, contra}
+use Rattle.rules.specs.Calls.{Halves, ordered, sided, Store, Outcome, Item, Call, enter, move, settle, derive, written, desk, run}
+use Rattle.rules.specs.Relations.{Meets, DirectedWalk, NoDirected, ChainIs}
+use Rattle.rules.specs.Refusals.{Delivers, Sound, Uses, SharesBoth, Linked, ValidOn}
+use Rattle.rules.specs.Demands.{ChainOfHalves, Within, PairEntered, made}
 use Rattle.rules.specs.Stream.{bytes, transcript}
-use Rattle.rules.specs.Examples.{csdAs, sampleStart, sampleDelivering, sampleReceiving, sampleDay, sampleOutput, outputWith}
+use Rattle.rules.specs.Examples.{csdAs, A, B, bothReach, wayThere, wayBack, sampleStart, sampleDelivering, sampleReceiving, sampleDay, sampleOutput, outputWith}
 
 -- ---- Ask 1, "The side in the half": on every store, halves and step list, refusals included
 
@@ -277,3 +278,65 @@ pub record DaysShown : Type 0 where
   pub alternative : map (λ (x : ℕ × Chain). chain (ask (onDay (x .0) dated)) 0 0 1) byTheAlternative ≡ map (λ (x : ℕ × Chain). x .1) byTheAlternative
   pub broughtIn : map (λ (x : ℕ × Option ℕ). contra (ask (onDay (x .0) dated)) 0 0 0) broughtInBy ≡ map (λ (x : ℕ × Option ℕ). x .1) broughtInBy
   pub refusals : map (λ (x : Link × ℕ). firstOf (rowConditions dated (linkRow (x .0)))) datedRows ≡ map (λ (x : Link × ℕ). x .1) datedRows
+
+-- ---- Ask 6, "Taking a delivery back"
+
+-- "every number of a reached store": each position and balance lies within ±10^15
+pub record ReachedWithin : Type 0 where
+  pub positions : (cs : List Call) (s a : ℕ) → s < securityLimit → Within (heldIn (run cs .store .positions) s a)
+  pub cash : (cs : List Call) (a : ℕ) → Within (cashOn (run cs .store .cash) a)
+
+-- a step with debit and credit exchanged
+abbrev pub exchanged : Step → Step
+exchanged x = step (x .csd) (x .credited) (x .debited)
+
+-- the steps of a chain from its other end: in reverse order, each with debit and credit exchanged
+abbrev pub fromTheOtherEnd : List Step → List Step
+fromTheOtherEnd steps = reverse (map exchanged steps)
+
+-- "This is wanted for chains of one step, for default chains, and where just one of the two directed walks reaches": of the chain with these steps for the
+-- security s, between the CSDs D, which delivers, and R, which receives
+pub data Wanted (r : Rows) (s D R : ℕ) (steps : List Step) : Type 0 where
+  -- "chains of one step"
+  oneStep : length steps ≡ 1 → Wanted r s D R steps
+  -- "default chains": the two default walks meet; or neither directed walk reaches, and they are judged by their ends
+  defaultsMeet : {up down : List ℕ} → Meets (r .csds) (r .links) s D R up down → Wanted r s D R steps
+  defaultsEnd : NoDirected (r .csds) (r .links) s R D → NoDirected (r .csds) (r .links) s D R → Wanted r s D R steps
+  -- "just one of the two directed walks reaches": the one from D to R, or the one from R to D
+  justThere : {path : List ℕ} → DirectedWalk (r .csds) (r .links) s R D path → NoDirected (r .csds) (r .links) s D R → Wanted r s D R steps
+  justBack : {path : List ℕ} → NoDirected (r .csds) (r .links) s R D → DirectedWalk (r .csds) (r .links) s D R path → Wanted r s D R steps
+
+-- the CSD of an account
+abbrev csdIn : Store → ℕ → ℕ
+csdIn st a = homeOf (rowsOf (st .directory) .accounts) a
+
+-- the chain of the half h, which delivers, and g, which receives, on a day, is one for which it is wanted
+pub record WantedOf (st : Store) (day : ℕ) (h g : Half) (steps : List Step) : Type 0 where
+  pub chain : ChainOfHalves st day h g steps
+  pub wanted : Wanted (rowsOn day (st .directory)) (h .security) (csdIn st (h .account)) (csdIn st (g .account)) steps
+
+-- Over the rows of a day of a sound directory the chain turns round with its accounts: where it is wanted, that from b to a is the one from a to b from the
+-- other end.
+pub record ChainTurns : Type 0 where
+  pub turns : (d : Directory) (day s a b : ℕ) (steps : List Step) → Sound d → ChainIs (rowsOn day d) s a b steps
+      → Wanted (rowsOn day d) s (homeOf (rowsOf d .accounts) a) (homeOf (rowsOf d .accounts) b) steps → ChainIs (rowsOn day d) s b a (fromTheOtherEnd steps)
+
+-- the outcome of a settlement that takes back a pair booked by a first chain over the store st: "is accepted and restores every position and balance"
+pub record TakesBack (st : Store) (first lent : List Step) (o : Outcome) : Type 0 where
+  pub answer : o .answer ≡ Booked (length first)
+  pub steps : o .steps ≡ written (fromTheOtherEnd first) lent
+  pub store : o .store ≡ st
+
+-- "after a booked pair the opposite one, same security, quantity, amount and day, settled as the next call": the halves hs of the pair, of which h delivers and
+-- g receives, and the halves opposite, of which g delivers and h receives. The halves of a booked pair have the same security, quantity and amount. The pair is the
+-- last of a list of calls from the empty store; the opposite one "is lent at least 16 steps", as the pair was.
+pub record TakingBack : Type 0 where
+  pub restores : (cs : List Call) (hs opposite : Halves) (h g : Half) (day k : ℕ) (lent again steps : List Step)
+      → desk (settle hs day lent) (run cs .store) .answer ≡ Booked k
+      → Delivers hs h g → Delivers opposite g h → WantedOf (run cs .store) day h g steps → stepLimit ≤ length again
+      → TakesBack (run cs .store) steps again (desk (settle opposite day again) (desk (settle hs day lent) (run cs .store) .store))
+
+-- Where both directed walks reach it is not wanted: the chains of `Examples: BothReach`, there and back
+pub record BothReachUnwanted : Type 0 where
+  pub there : Wanted (onDay 0 bothReach) 0 A B wayThere → ⊥
+  pub back : Wanted (onDay 0 bothReach) 0 B A wayBack → ⊥

@@ -1,0 +1,207 @@
+-- Ask 6: a pair that is booked over a reached store can be taken back. Its chain turns round; what the opposite pair debits has just been credited, and
+-- every number that it changes ends where it was, within ±10^15.
+use mathlib.Core.Path.{_≡_, refl, sym, ap, subst, _∙_}
+use mathlib.Core.Logic.{_≢_, inl, inr}
+use mathlib.Core.Bool.{true, false}
+use mathlib.Core.List.{List, [], List·Memᴰ}
+use Prim.Native.Nat.{ℕ, _≤_, _<_}
+use native.Mathlib.Omega.{arith}
+use lib.IntN.{ℤ, pos, _+ℤ_, _-ℤ_}
+use lib.Signed.{_≤ℤ_}
+use lib.ListN.{length}
+use Rattle.rules.specs.Types.{Directory, Half, Step, Booked}
+use Rattle.rules.specs.Directory.{Rows, rowsOf, rowsOn, securityLimit, accountLimit, isKind}
+use Rattle.rules.specs.Lookups.{homeOf}
+use Rattle.rules.specs.Chain.{turned, stepLimit}
+use Rattle.rules.specs.Booking.{cashCount, heldIn, cashOn}
+use Rattle.rules.specs.Calls.{Halves, Store, Call, settle, desk, run, emptyStore}
+use Rattle.rules.specs.Refusals.{ParticipantOrOmnibus, Misfits, settlePositions, settleCash, settleSteps, Delivers}
+use Rattle.rules.specs.Demands.{ChainOfHalves, Within, Agree, Allowed, Bookable, BookedPair}
+use Rattle.rules.specs.Requests.{Wanted, WantedOf, fromTheOtherEnd, ChainTurns, TakesBack, TakingBack}
+use Rattle.rules.proofs.Basics.{or-cases}
+use Rattle.rules.proofs.Int.{parts-+, up-pos, dn-pos, linear}
+use Rattle.rules.proofs.RowTests.{says-kind-is}
+use Rattle.rules.proofs.AmountRelation.{says-floored}
+use Rattle.rules.proofs.SoundRelation.{says-sound}
+use Rattle.rules.proofs.SideRelation.{delivers-is}
+use Rattle.rules.proofs.Facts.{Facts}
+use Rattle.rules.proofs.Accounts.{kind-small}
+use Rattle.rules.proofs.Soundness.{sound-gives}
+use Rattle.rules.proofs.ChainRelation.{chain-one}
+use Rattle.rules.proofs.Turning.{turned-length, turned-each}
+use Rattle.rules.proofs.TurnedChain.{chain-turned}
+use Rattle.rules.proofs.Permissions.{within}
+use Rattle.rules.proofs.Restoring.{out-in, in-out, units-back, cents-back}
+use Rattle.rules.proofs.Settlements.{books}
+use Rattle.rules.proofs.Funds.{Funded}
+use Rattle.rules.proofs.Limits.{Bounded, run-bounded}
+use Rattle.rules.proofs.Kept.{Kept}
+use Rattle.rules.proofs.Lists.{run-kept}
+use Rattle.rules.proofs.Running.{Ready, empty-ready, run-ready}
+
+-- ---- what is known of a store that calls have reached
+pub record Reached (st : Store) : Type 0 where
+  pub ready : Ready st
+  pub bounded : Bounded st
+  pub floor : (a s : ℕ) → a < accountLimit → s < securityLimit → ParticipantOrOmnibus (rowsOf (st .directory) .accounts) a → pos 0 ≤ℤ heldIn (st .positions) s a
+  pub funded : Funded (st .cash)
+
+pub run-reached : (cs : List Call) → Reached (run cs .store)
+run-reached cs =
+    let K : Kept (run cs .items) (run cs .store) = run-kept cs in
+    record {
+      ready = run-ready cs (record { items = []; store = emptyStore }) empty-ready;
+      bounded = run-bounded cs;
+      floor = λ a s ha hs f. K .inBalance .floor a s ha hs (says-floored _ a .tests (subst (λ (r : Rows). ParticipantOrOmnibus (r .accounts) a) (K .rows) f));
+      funded = K .funded;
+    }
+
+-- ---- the chain
+pub chain-turns : ChainTurns
+chain-turns = record { turns = λ d day s a b steps good x w. chain-turned (rowsOn day d) (sound-gives d (says-sound d .tests good) day) s a b steps x w }
+
+-- ---- the pair, once it is booked
+opposite-agree : (r : Rows) (h g : Half) → Agree r h g → Agree r g h
+opposite-agree r h g A =
+    record {
+      deliverer = A .receiver;
+      receiver = A .deliverer;
+      two = λ e. A .two (sym e);
+      receiverCsd = A .delivererCsd;
+      delivererCsd = A .receiverCsd;
+      security = rw (A .sameSecurity) at (A .security);
+      sameSecurity = sym (A .sameSecurity);
+      quantity = rw (A .sameQuantity) at (A .quantity);
+      sameQuantity = sym (A .sameQuantity);
+      amount = rw (A .sameAmount) at (A .amount);
+      sameAmount = sym (A .sameAmount);
+    }
+
+-- what is not negative covers what it gains
+covers : (x : ℤ) (q : ℕ) → pos 0 ≤ℤ x → pos q ≤ℤ (x +ℤ pos q)
+covers x q h = omega (arith, linear, parts-+ x (pos q), up-pos q, dn-pos q, up-pos 0, dn-pos 0)
+
+floored-small : (r : Rows) → Facts r → (a : ℕ) → ParticipantOrOmnibus (r .accounts) a → a < accountLimit
+floored-small r F a f = elim (or-cases (isKind (r .accounts) a 0) (isKind (r .accounts) a 1) (says-floored (r .accounts) a .tests f)) [
+  | inl e ↦ kind-small r F a 0 e
+  | inr e ↦ kind-small r F a 1 e
+]
+
+module _ (st : Store) (C : Reached st) (hs : Halves) (day : ℕ) (lent : List Step) (h g : Half) (steps : List Step)
+    (B : Bookable st hs day lent h g steps) (P : BookedPair st hs day lent h g steps) where
+  -- the store that the pair leaves
+  abbrev left : Store
+  left = desk (settle hs day lent) st .store
+
+  F : Facts (rowsOn day (st .directory))
+  F = sound-gives (st .directory) (C .ready .soundBooks) day
+
+  abbrev A : Agree (rowsOf (st .directory)) h g
+  A = B .agree
+
+  security : h .security < securityLimit
+  security = omega (arith, A .security, F .fewSecurities)
+
+  deliverer : h .account < cashCount
+  deliverer = kind-small (rowsOn day (st .directory)) F (h .account) 0 (says-kind-is (rowsOf (st .directory) .accounts) (h .account) 0 .tests (A .deliverer))
+
+  -- what is held by an account credited, or debited, by a step of the pair
+  credited-left : (x : Step) → List·Memᴰ x steps → heldIn (left .positions) (g .security) (x .credited) ≡ heldIn (st .positions) (h .security) (x .credited) +ℤ pos (g .quantity)
+  credited-left x m = rw (← (A .sameSecurity), ← (A .sameQuantity)) (P .positions .credits x m)
+
+  debited-left : (x : Step) → List·Memᴰ x steps → heldIn (left .positions) (g .security) (x .debited) ≡ heldIn (st .positions) (h .security) (x .debited) -ℤ pos (g .quantity)
+  debited-left x m = rw (← (A .sameSecurity), ← (A .sameQuantity)) (P .positions .debits x m)
+
+  paid-left : cashOn (left .cash) (h .account) ≡ cashOn (st .cash) (h .account) +ℤ pos (g .amount)
+  paid-left = rw (← (A .sameAmount)) (P .cash .paid)
+
+  pays-left : cashOn (left .cash) (g .account) ≡ cashOn (st .cash) (g .account) -ℤ pos (g .amount)
+  pays-left = rw (← (A .sameAmount)) (P .cash .pays)
+
+  -- each position and balance of the store before the pair
+  position-within : (a : ℕ) → Within (heldIn (st .positions) (h .security) a)
+  position-within a = within _ (C .bounded .positions (h .security) a security)
+
+  balance-within : (a : ℕ) → Within (cashOn (st .cash) a)
+  balance-within a = within _ (C .bounded .cash a)
+
+  -- holdings, cash and limits allow the opposite pair
+  opposite-allowed : Allowed left g h (turned steps)
+  opposite-allowed =
+      record {
+        holdings = turned-each (λ x. ParticipantOrOmnibus (rowsOf (left .directory) .accounts) (x .debited) → pos (g .quantity) ≤ℤ heldIn (left .positions) (g .security) (x .debited)) steps
+            (λ x m f. let o = subst (λ (d : Directory). ParticipantOrOmnibus (rowsOf d .accounts) (x .credited)) (P .directory) f in
+            rw (credited-left x m) (covers (heldIn (st .positions) (h .security) (x .credited)) (g .quantity) (C .floor (x .credited) (h .security) (floored-small (rowsOn day (st .directory)) F (x .credited) o) security o)));
+        cash = λ n. rw paid-left (covers (cashOn (st .cash) (h .account)) (g .amount) (C .funded .floor (h .account) deliverer));
+        debitLimits = turned-each (λ x. Within (heldIn (left .positions) (g .security) (x .debited) -ℤ pos (g .quantity))) steps
+            (λ x m. rw (credited-left x m, in-out (heldIn (st .positions) (h .security) (x .credited)) (g .quantity)) (position-within (x .credited)));
+        creditLimits = turned-each (λ x. Within (heldIn (left .positions) (g .security) (x .credited) +ℤ pos (g .quantity))) steps
+            (λ x m. rw (debited-left x m, out-in (heldIn (st .positions) (h .security) (x .debited)) (g .quantity)) (position-within (x .debited)));
+        payerLimit = λ n. rw (paid-left, in-out (cashOn (st .cash) (h .account)) (g .amount)) (balance-within (h .account));
+        payeeLimit = λ n. rw (pays-left, out-in (cashOn (st .cash) (g .account)) (g .amount)) (balance-within (g .account));
+      }
+
+  -- ---- the opposite pair
+  module _ (w : Wanted (rowsOn day (st .directory)) (h .security) (homeOf (rowsOf (st .directory) .accounts) (h .account)) (homeOf (rowsOf (st .directory) .accounts) (g .account)) steps)
+      (opposite : Halves) (sides : Delivers opposite g h) (again : List Step) (enough : stepLimit ≤ length again) where
+    opposite-fits : Misfits left (settle opposite day again) → ⊥
+    opposite-fits (settlePositions n) = n (P .positions .size ∙ C .ready .positions)
+    opposite-fits (settleCash n) = n (P .cash .size ∙ C .ready .cash)
+    opposite-fits (settleSteps l) = omega arith
+
+    opposite-bookable : Bookable left opposite day again g h (fromTheOtherEnd steps)
+    unfolding turned
+    opposite-bookable =
+        record {
+          fits = opposite-fits;
+          soundBooks = rw (P .directory) (B .soundBooks);
+          sides = sides;
+          agree = rw (P .directory) (opposite-agree (rowsOf (st .directory)) h g A);
+          chain = rw (P .directory, ← (A .sameSecurity)) (chain-turned (rowsOn day (st .directory)) F (h .security) (h .account) (g .account) steps (B .chain) w);
+          allowed = opposite-allowed;
+        }
+
+    abbrev pair : BookedPair left opposite day again g h (fromTheOtherEnd steps)
+    pair = books left opposite day again .whenBookable g h (fromTheOtherEnd steps) opposite-bookable
+
+    abbrev end : Store
+    end = desk (settle opposite day again) left .store
+
+    takes-back : TakesBack st steps again (desk (settle opposite day again) left)
+    unfolding turned
+    takes-back =
+        let units : end .positions ≡ st .positions
+        = units-back steps (h .security) (h .quantity) (st .positions) (left .positions) (end .positions) (P .positions) (rw (A .sameSecurity, A .sameQuantity) (pair .positions)) in
+        let cents : end .cash ≡ st .cash
+        = cents-back (g .account) (h .account) (h .amount) (st .cash) (left .cash) (end .cash) (P .cash) (rw (A .sameAmount) (pair .cash)) in
+        let same : end .directory ≡ st .directory = pair .directory ∙ P .directory in
+        record {
+          answer = pair .returns .answers ∙ ap Booked (turned-length steps);
+          steps = pair .returns .writes;
+          store = λ i. record { directory = same i; positions = units i; cash = cents i };
+        }
+
+-- ---- the claim
+
+-- a booked pair, of its own halves and chain
+module _ (st : Store) (hs : Halves) (day : ℕ) (lent : List Step) where
+  abbrev Both : Half → Half → List Step → Type 0
+  Both h g steps = Bookable st hs day lent h g steps × BookedPair st hs day lent h g steps
+
+  booked-of : (h g : Half) (steps : List Step) (k : ℕ) → desk (settle hs day lent) st .answer ≡ Booked k → Delivers hs h g → ChainOfHalves st day h g steps → Both h g steps
+  booked-of h g steps k e sides chain =
+      let b = books st hs day lent .onlyThen k e in
+      let own = delivers-is hs (b .0) (b .1) (b .3 .sides) in
+      let given = delivers-is hs h g sides in
+      let both : Both h g (b .2)
+      = subst (λ (y : Half). Both h y (b .2)) (own .1 ∙ sym (given .1)) (subst (λ (x : Half). Both x (b .1) (b .2)) (own .0 ∙ sym (given .0)) (b .3, b .5)) in
+      let facts : Facts (rowsOn day (st .directory)) = sound-gives (st .directory) (says-sound (st .directory) .tests (both .0 .soundBooks)) day in
+      subst (λ (xs : List Step). Both h g xs) (chain-one (rowsOn day (st .directory)) facts (h .security) (h .account) (g .account) (b .2) steps (both .0 .chain) chain) both
+
+pub taking-back : TakingBack
+taking-back =
+    record {
+      restores = λ cs hs opposite h g day k lent again steps e sides turned wanted enough.
+          let b = booked-of (run cs .store) hs day lent h g steps k e sides (wanted .chain) in
+          takes-back (run cs .store) (run-reached cs) hs day lent h g steps (b .0) (b .1) (wanted .wanted) opposite turned again enough;
+    }
