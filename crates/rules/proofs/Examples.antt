@@ -5,7 +5,9 @@ use mathlib.Core.List.{map}
 use Rattle.rules.specs.Tests.{isRow, isFull}
 use Rattle.rules.specs.Identifiers.{isBic, sameBytes, isIsin, spread, alternating, isinSum, isinChecks}
 use Rattle.rules.specs.Directory
+use Rattle.rules.specs.Directory.{onDay}
 use Rattle.rules.specs.Lookups
+use Rattle.rules.specs.Lookups.{ask}
 use Rattle.rules.specs.Entries
 use Rattle.rules.specs.Walks.{defaultHop, directedHop, walk}
 use Rattle.rules.specs.Chain
@@ -14,20 +16,23 @@ use Rattle.rules.specs.Calls
 use Rattle.rules.specs.Stream
 use Rattle.rules.specs.Requests.{SidedSample, BranchesEntered, segregated, SegregatedShown, dated, DaysShown}
 use Rattle.rules.proofs.Identifiers.{left-is-right}
-use Rattle.rules.specs.Examples.{Example, examples, drawn, derived, sampleCalls, sampleAnswers, samplePositions, sampleInput, sampleOutput, Starred, IsinShown, SampleShown}
+use Rattle.rules.specs.Examples.{Example, examples, drawn, derived, bothReach, wayThere, wayBack, BothReach, sampleCalls, sampleAnswers, samplePositions, sampleInput, sampleOutput, Starred, IsinShown, SampleShown}
 
--- the starred chains, and the one that stands behind them, collected
-chains : map derived examples ≡ map (λ (e : Example). e .gives) examples
-unfolding examples Directory.linksOf Directory.linksFor Directory.external Directory.pairOf Directory.hasIssuer Directory.hasLinkTo Directory.issuerLink Directory.defaultLink defaultHop directedHop walk Chain.isNamed Chain.firstShared Chain.upTo Chain.route Chain.climb Chain.turned Chain.lastOf Lookups.issuance Lookups.homeOf Chain.chain
-chains = refl
+-- the starred chains, and the one that stands behind them, collected; the chain there and the one back where both directed walks reach
+chains : (map derived examples ≡ map (λ (e : Example). e .gives) examples) × (Chain.chain (ask (onDay 0 bothReach)) 0 0 4 ≡ Chain.chained wayThere) × (Chain.chain (ask (onDay 0 bothReach)) 0 4 0 ≡ Chain.chained wayBack)
+unfolding examples bothReach Directory.linksOf Directory.linksFor Directory.external Directory.pairOf Directory.hasIssuer Directory.hasLinkTo Directory.issuerLink Directory.defaultLink defaultHop directedHop walk Chain.isNamed Chain.firstShared Chain.upTo Chain.route Chain.climb Chain.turned Chain.lastOf Lookups.issuance Lookups.homeOf Chain.chain
+chains = (refl, refl, refl)
 
 -- each of these directories is sound
-sound-examples : map (λ (e : Example). Entries.soundRows (drawn (e .links))) examples ≡ map (λ (e : Example). true) examples
-unfolding examples isRow isFull isBic sameBytes isIsin spread alternating isinSum isinChecks Directory.external Directory.isKind Directory.inBooks Directory.isServed Directory.isApart Directory.linksFor Entries.eachDay Directory.bicEntered Entries.csdRefusal Directory.isinEntered Entries.securityRefusal Entries.accountRefusal Entries.pairRefusal Entries.linkRefusal Entries.csdsSound Entries.securitiesSound Entries.accountsSound Entries.pairsSound Entries.linksSound Entries.soundRows
-sound-examples = refl
+sounds : (map (λ (e : Example). Entries.soundRows (drawn (e .links))) examples ≡ map (λ (e : Example). true) examples) × (Entries.soundRows bothReach ≡ true)
+unfolding examples bothReach isRow isFull isBic sameBytes isIsin spread alternating isinSum isinChecks Directory.external Directory.isKind Directory.inBooks Directory.isServed Directory.isApart Directory.linksFor Entries.eachDay Directory.bicEntered Entries.csdRefusal Directory.isinEntered Entries.securityRefusal Entries.accountRefusal Entries.pairRefusal Entries.linkRefusal Entries.csdsSound Entries.securitiesSound Entries.accountsSound Entries.pairsSound Entries.linksSound Entries.soundRows
+sounds = (refl, refl)
 
 pub starred : Starred
-starred = record { chains = chains; sound = sound-examples }
+starred = record { chains = chains .0; sound = sounds .0 }
+
+pub both-reach : BothReach
+both-reach = record { sound = sounds .1; there = chains .1; back = chains .2 }
 
 pub isin-shown : IsinShown
 unfolding spread alternating isinSum isinChecks

@@ -80,6 +80,7 @@ pub mod Lists
 pub mod SidesWritten
 pub mod Running
 pub mod TakingBack
+pub mod BothReach
 pub mod Segregated
 pub mod Dated
 pub mod Theorems

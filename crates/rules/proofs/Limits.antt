@@ -1,5 +1,5 @@
 -- Every number of a store that calls have made from the empty one lies within ±10^15: 22 is asked of each number that a call changes.
-use mathlib.Core.Path.{_≡_, refl, ap, _∙_}
+use mathlib.Core.Path.{_≡_, refl}
 use mathlib.Core.Logic.{_≢_}
 use mathlib.Core.List.{List, [], _∷_, List·Memᴰ}
 use Prim.Native.Nat.{ℕ, zero, suc, _<_}

@@ -1,8 +1,7 @@
 -- Ask 6: a pair that is booked over a reached store can be taken back. Its chain turns round; what the opposite pair debits has just been credited, and
 -- every number that it changes ends where it was, within ±10^15.
-use mathlib.Core.Path.{_≡_, refl, sym, ap, subst, _∙_}
-use mathlib.Core.Logic.{_≢_, inl, inr}
-use mathlib.Core.Bool.{true, false}
+use mathlib.Core.Path.{_≡_, sym, ap, subst, _∙_}
+use mathlib.Core.Logic.{inl, inr}
 use mathlib.Core.List.{List, [], List·Memᴰ}
 use Prim.Native.Nat.{ℕ, _≤_, _<_}
 use native.Mathlib.Omega.{arith}
@@ -11,13 +10,12 @@ use lib.Signed.{_≤ℤ_}
 use lib.ListN.{length}
 use Rattle.rules.specs.Types.{Directory, Half, Step, Booked}
 use Rattle.rules.specs.Directory.{Rows, rowsOf, rowsOn, securityLimit, accountLimit, isKind}
-use Rattle.rules.specs.Lookups.{homeOf}
 use Rattle.rules.specs.Chain.{turned, stepLimit}
 use Rattle.rules.specs.Booking.{cashCount, heldIn, cashOn}
 use Rattle.rules.specs.Calls.{Halves, Store, Call, settle, desk, run, emptyStore}
 use Rattle.rules.specs.Refusals.{ParticipantOrOmnibus, Misfits, settlePositions, settleCash, settleSteps, Delivers}
-use Rattle.rules.specs.Demands.{ChainOfHalves, Within, Agree, Allowed, Bookable, BookedPair}
-use Rattle.rules.specs.Requests.{Wanted, WantedOf, fromTheOtherEnd, ChainTurns, TakesBack, TakingBack}
+use Rattle.rules.specs.Demands.{Within, Agree, Allowed, Bookable, BookedPair}
+use Rattle.rules.specs.Requests.{WantedOf, fromTheOtherEnd, ChainTurns, TakesBack, TakingBack}
 use Rattle.rules.proofs.Basics.{or-cases}
 use Rattle.rules.proofs.Int.{parts-+, up-pos, dn-pos, linear}
 use Rattle.rules.proofs.RowTests.{says-kind-is}
@@ -27,7 +25,6 @@ use Rattle.rules.proofs.SideRelation.{delivers-is}
 use Rattle.rules.proofs.Facts.{Facts}
 use Rattle.rules.proofs.Accounts.{kind-small}
 use Rattle.rules.proofs.Soundness.{sound-gives}
-use Rattle.rules.proofs.ChainRelation.{chain-one}
 use Rattle.rules.proofs.Turning.{turned-length, turned-each}
 use Rattle.rules.proofs.TurnedChain.{chain-turned}
 use Rattle.rules.proofs.Permissions.{within}
@@ -142,8 +139,7 @@ module _ (st : Store) (C : Reached st) (hs : Halves) (day : ℕ) (lent : List St
       }
 
   -- ---- the opposite pair
-  module _ (w : Wanted (rowsOn day (st .directory)) (h .security) (homeOf (rowsOf (st .directory) .accounts) (h .account)) (homeOf (rowsOf (st .directory) .accounts) (g .account)) steps)
-      (opposite : Halves) (sides : Delivers opposite g h) (again : List Step) (enough : stepLimit ≤ length again) where
+  module _ (w : WantedOf st day h g (length steps)) (opposite : Halves) (sides : Delivers opposite g h) (again : List Step) (enough : stepLimit ≤ length again) where
     opposite-fits : Misfits left (settle opposite day again) → ⊥
     opposite-fits (settlePositions n) = n (P .positions .size ∙ C .ready .positions)
     opposite-fits (settleCash n) = n (P .cash .size ∙ C .ready .cash)
@@ -167,7 +163,7 @@ module _ (st : Store) (C : Reached st) (hs : Halves) (day : ℕ) (lent : List St
     abbrev end : Store
     end = desk (settle opposite day again) left .store
 
-    takes-back : TakesBack st steps again (desk (settle opposite day again) left)
+    takes-back : TakesBack st day h g (length steps) again (desk (settle opposite day again) left)
     unfolding turned
     takes-back =
         let units : end .positions ≡ st .positions
@@ -177,31 +173,31 @@ module _ (st : Store) (C : Reached st) (hs : Halves) (day : ℕ) (lent : List St
         let same : end .directory ≡ st .directory = pair .directory ∙ P .directory in
         record {
           answer = pair .returns .answers ∙ ap Booked (turned-length steps);
+          chain = steps;
+          booked = B .chain;
           steps = pair .returns .writes;
           store = λ i. record { directory = same i; positions = units i; cash = cents i };
         }
 
 -- ---- the claim
 
--- a booked pair, of its own halves and chain
+-- a booked pair, by the halves that deliver and receive
 module _ (st : Store) (hs : Halves) (day : ℕ) (lent : List Step) where
-  abbrev Both : Half → Half → List Step → Type 0
-  Both h g steps = Bookable st hs day lent h g steps × BookedPair st hs day lent h g steps
+  abbrev Pair : Half → Half → List Step → Type 0
+  Pair h g steps = Bookable st hs day lent h g steps × BookedPair st hs day lent h g steps
 
-  booked-of : (h g : Half) (steps : List Step) (k : ℕ) → desk (settle hs day lent) st .answer ≡ Booked k → Delivers hs h g → ChainOfHalves st day h g steps → Both h g steps
-  booked-of h g steps k e sides chain =
-      let b = books st hs day lent .onlyThen k e in
+  booked-by : (h g : Half) (K : ℕ) → Delivers hs h g → desk (settle hs day lent) st .answer ≡ Booked K → (steps : List Step) × (K ≡ length steps) × Pair h g steps
+  booked-by h g K sides e =
+      let b = books st hs day lent .onlyThen K e in
       let own = delivers-is hs (b .0) (b .1) (b .3 .sides) in
       let given = delivers-is hs h g sides in
-      let both : Both h g (b .2)
-      = subst (λ (y : Half). Both h y (b .2)) (own .1 ∙ sym (given .1)) (subst (λ (x : Half). Both x (b .1) (b .2)) (own .0 ∙ sym (given .0)) (b .3, b .5)) in
-      let facts : Facts (rowsOn day (st .directory)) = sound-gives (st .directory) (says-sound (st .directory) .tests (both .0 .soundBooks)) day in
-      subst (λ (xs : List Step). Both h g xs) (chain-one (rowsOn day (st .directory)) facts (h .security) (h .account) (g .account) (b .2) steps (both .0 .chain) chain) both
+      (b .2, b .4, subst (λ (y : Half). Pair h y (b .2)) (own .1 ∙ sym (given .1)) (subst (λ (x : Half). Pair x (b .1) (b .2)) (own .0 ∙ sym (given .0)) (b .3, b .5)))
 
 pub taking-back : TakingBack
 taking-back =
     record {
-      restores = λ cs hs opposite h g day k lent again steps e sides turned wanted enough.
-          let b = booked-of (run cs .store) hs day lent h g steps k e sides (wanted .chain) in
-          takes-back (run cs .store) (run-reached cs) hs day lent h g steps (b .0) (b .1) (wanted .wanted) opposite turned again enough;
+      restores = λ cs pair opposite h g day K lent again sides turned enough e wanted.
+          let st : Store = run cs .store in
+          let b = booked-by st pair day lent h g K sides e in
+          rw (b .1) (takes-back st (run-reached cs) pair day lent h g (b .0) (b .2 .0) (b .2 .1) (rw (b .1) at wanted) opposite turned again enough);
     }

@@ -1,6 +1,6 @@
 -- The customer's three demands, and what document 02 asks to be shown, proved of the definitions with no hypothesis left.
 use Rattle.rules.specs.Demands.{Demand1, Demand2, Demand3}
-use Rattle.rules.specs.Requests.{SideInTheHalf, Branches, Duos, AddedWhileReading, LinksOfADay, FateOfTheDay, OnAnyDay}
+use Rattle.rules.specs.Requests.{SideInTheHalf, Branches, Duos, AddedWhileReading, LinksOfADay, FateOfTheDay, OnAnyDay, ReachedWithin, ChainTurns, TakingBack}
 use Rattle.rules.proofs.Refusals.{desk-refuses, core-refuses, units-numbered, cents-numbered}
 use Rattle.rules.proofs.Ruling.{ruled, totalled}
 use Rattle.rules.proofs.Derivations.{derives}
@@ -12,6 +12,8 @@ use Rattle.rules.proofs.Branches.{branches}
 use Rattle.rules.proofs.Segregated.{duos}
 use Rattle.rules.proofs.Identifiers.{added-while-reading}
 use Rattle.rules.proofs.Dated.{links-of-a-day, fate-of-the-day, on-any-day}
+use Rattle.rules.proofs.Limits.{reached-within}
+use Rattle.rules.proofs.TakingBack.{chain-turns, taking-back}
 
 pub demand1 : Demand1
 demand1 = record { desks = desk-refuses; cores = core-refuses; unitsTotals = units-numbered; cashTotals = cents-numbered }
@@ -36,3 +38,6 @@ ask4 = added-while-reading
 
 pub ask5 : LinksOfADay × FateOfTheDay × OnAnyDay
 ask5 = (links-of-a-day, fate-of-the-day, on-any-day)
+
+pub ask6 : ReachedWithin × ChainTurns × TakingBack
+ask6 = (reached-within, chain-turns, taking-back)

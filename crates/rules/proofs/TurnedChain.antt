@@ -2,7 +2,7 @@
 -- them is turned.
 use mathlib.Core.Path.{_≡_, refl, sym, ap, _∙_}
 use mathlib.Core.Logic.{_≢_}
-use mathlib.Core.List.{List, [], _∷_, _++_}
+use mathlib.Core.List.{List, _++_}
 use Prim.Native.Nat.{ℕ, suc, _≤_}
 use native.Mathlib.Omega.{arith}
 use lib.ListN.{length, length-append}
@@ -74,7 +74,7 @@ module _ (r : Rows) (F : Facts r) (s a b : ℕ) (steps : List Step) (x : ChainIs
   R = homeOf (r .accounts) b
 
   -- where the chain is wanted and goes along the walk directed from D to R, the one from R to D does not reach
-  just-there : Wanted r s D R steps → JustThere r F s D R (x .join) (x .up)
+  just-there : Wanted r s D R (length steps) → JustThere r F s D R (x .join) (x .up)
   just-there (Requests.oneStep one) j ne n d =
       absurd (omega (
         arith,
@@ -90,7 +90,7 @@ module _ (r : Rows) (F : Facts r) (s a b : ℕ) (steps : List Step) (x : ChainIs
   just-there (justThere w k) j ne n d = k
   just-there (justBack k w) j ne n d = absurd (k (x .up) d)
 
-  pub chain-turned : Wanted r s D R steps → ChainIs r s b a (fromTheOtherEnd steps)
+  pub chain-turned : Wanted r s D R (length steps) → ChainIs r s b a (fromTheOtherEnd steps)
   unfolding turned
   chain-turned w =
       record {

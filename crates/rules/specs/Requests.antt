@@ -281,7 +281,7 @@ pub record DaysShown : Type 0 where
 
 -- ---- Ask 6, "Taking a delivery back"
 
--- "every number of a reached store": each position and balance lies within ±10^15
+-- "The store is one reached by calls from empty": each of its positions and balances lies within ±10^15
 pub record ReachedWithin : Type 0 where
   pub positions : (cs : List Call) (s a : ℕ) → s < securityLimit → Within (heldIn (run cs .store .positions) s a)
   pub cash : (cs : List Call) (a : ℕ) → Within (cashOn (run cs .store .cash) a)
@@ -294,49 +294,51 @@ exchanged x = step (x .csd) (x .credited) (x .debited)
 abbrev pub fromTheOtherEnd : List Step → List Step
 fromTheOtherEnd steps = reverse (map exchanged steps)
 
--- "This is wanted for chains of one step, for default chains, and where just one of the two directed walks reaches": of the chain with these steps for the
--- security s, between the CSDs D, which delivers, and R, which receives
-pub data Wanted (r : Rows) (s D R : ℕ) (steps : List Step) : Type 0 where
+-- "This is wanted for chains of one step, for default chains, and where just one of the two directed walks reaches": of a chain of K steps for the security s
+-- between the CSDs D, which delivers, and R, which receives
+pub data Wanted (r : Rows) (s D R K : ℕ) : Type 0 where
   -- "chains of one step"
-  oneStep : length steps ≡ 1 → Wanted r s D R steps
-  -- "default chains": the two default walks meet; or neither directed walk reaches, and they are judged by their ends
-  defaultsMeet : {up down : List ℕ} → Meets (r .csds) (r .links) s D R up down → Wanted r s D R steps
-  defaultsEnd : NoDirected (r .csds) (r .links) s R D → NoDirected (r .csds) (r .links) s D R → Wanted r s D R steps
+  oneStep : K ≡ 1 → Wanted r s D R K
+  -- "default chains": the two default walks meet; or neither directed walk reaches, and the ends of the default walks are judged
+  defaultsMeet : {up down : List ℕ} → Meets (r .csds) (r .links) s D R up down → Wanted r s D R K
+  defaultsEnd : NoDirected (r .csds) (r .links) s R D → NoDirected (r .csds) (r .links) s D R → Wanted r s D R K
   -- "just one of the two directed walks reaches": the one from D to R, or the one from R to D
-  justThere : {path : List ℕ} → DirectedWalk (r .csds) (r .links) s R D path → NoDirected (r .csds) (r .links) s D R → Wanted r s D R steps
-  justBack : {path : List ℕ} → NoDirected (r .csds) (r .links) s R D → DirectedWalk (r .csds) (r .links) s D R path → Wanted r s D R steps
+  justThere : {path : List ℕ} → DirectedWalk (r .csds) (r .links) s R D path → NoDirected (r .csds) (r .links) s D R → Wanted r s D R K
+  justBack : {path : List ℕ} → NoDirected (r .csds) (r .links) s R D → DirectedWalk (r .csds) (r .links) s D R path → Wanted r s D R K
 
--- the CSD of an account
-abbrev csdIn : Store → ℕ → ℕ
-csdIn st a = homeOf (rowsOf (st .directory) .accounts) a
-
--- the chain of the half h, which delivers, and g, which receives, on a day, is one for which it is wanted
-pub record WantedOf (st : Store) (day : ℕ) (h g : Half) (steps : List Step) : Type 0 where
-  pub chain : ChainOfHalves st day h g steps
-  pub wanted : Wanted (rowsOn day (st .directory)) (h .security) (csdIn st (h .account)) (csdIn st (g .account)) steps
-
--- Over the rows of a day of a sound directory the chain turns round with its accounts: where it is wanted, that from b to a is the one from a to b from the
--- other end.
+-- the chain turns round with its accounts: where this is wanted, the chain from b to a is that from a to b from the other end. Over the rows of a day of any sound
+-- directory
 pub record ChainTurns : Type 0 where
   pub turns : (d : Directory) (day s a b : ℕ) (steps : List Step) → Sound d → ChainIs (rowsOn day d) s a b steps
-      → Wanted (rowsOn day d) s (homeOf (rowsOf d .accounts) a) (homeOf (rowsOf d .accounts) b) steps → ChainIs (rowsOn day d) s b a (fromTheOtherEnd steps)
+      → Wanted (rowsOn day d) s (homeOf (rowsOf d .accounts) a) (homeOf (rowsOf d .accounts) b) (length steps)
+      → ChainIs (rowsOn day d) s b a (fromTheOtherEnd steps)
 
--- the outcome of a settlement that takes back a pair booked by a first chain over the store st: "is accepted and restores every position and balance"
-pub record TakesBack (st : Store) (first lent : List Step) (o : Outcome) : Type 0 where
-  pub answer : o .answer ≡ Booked (length first)
-  pub steps : o .steps ≡ written (fromTheOtherEnd first) lent
+-- the pair of the half h, which delivers, and g, which receives, is one for which it is wanted
+abbrev pub WantedOf : Store → ℕ → Half → Half → ℕ → Type 0
+WantedOf st day h g K =
+    Wanted (rowsOn day (st .directory)) (h .security) (homeOf (rowsOf (st .directory) .accounts) (h .account)) (homeOf (rowsOf (st .directory) .accounts) (g .account)) K
+
+-- the outcome of the opposite pair, after the pair of h and g has been booked with K steps over the store st
+pub record TakesBack (st : Store) (day : ℕ) (h g : Half) (K : ℕ) (lent : List Step) (o : Outcome) : Type 0 where
+  -- "is accepted"
+  pub answer : o .answer ≡ Booked K
+  -- with the steps of the pair's chain from the other end
+  pub chain : List Step
+  pub booked : ChainOfHalves st day h g chain
+  pub steps : o .steps ≡ written (fromTheOtherEnd chain) lent
+  -- "and restores every position and balance", the directory being as it was
   pub store : o .store ≡ st
 
--- "after a booked pair the opposite one, same security, quantity, amount and day, settled as the next call": the halves hs of the pair, of which h delivers and
--- g receives, and the halves opposite, of which g delivers and h receives. The halves of a booked pair have the same security, quantity and amount. The pair is the
--- last of a list of calls from the empty store; the opposite one "is lent at least 16 steps", as the pair was.
+-- "after a booked pair the opposite one, same security, quantity, amount and day, settled as the next call": h delivers and g receives in the pair, g delivers and
+-- h receives in the opposite one, and the halves of a booked pair have the same security, quantity and amount. The pair is the last of a list of calls from the empty
+-- store. "every call is lent at least 16 steps": the pair was, since it is booked.
 pub record TakingBack : Type 0 where
-  pub restores : (cs : List Call) (hs opposite : Halves) (h g : Half) (day k : ℕ) (lent again steps : List Step)
-      → desk (settle hs day lent) (run cs .store) .answer ≡ Booked k
-      → Delivers hs h g → Delivers opposite g h → WantedOf (run cs .store) day h g steps → stepLimit ≤ length again
-      → TakesBack (run cs .store) steps again (desk (settle opposite day again) (desk (settle hs day lent) (run cs .store) .store))
+  pub restores : (cs : List Call) (pair opposite : Halves) (h g : Half) (day K : ℕ) (lent again : List Step)
+      → Delivers pair h g → Delivers opposite g h → stepLimit ≤ length again
+      → desk (settle pair day lent) (run cs .store) .answer ≡ Booked K → WantedOf (run cs .store) day h g K
+      → TakesBack (run cs .store) day h g K again (desk (settle opposite day again) (desk (settle pair day lent) (run cs .store) .store))
 
--- Where both directed walks reach it is not wanted: the chains of `Examples: BothReach`, there and back
+-- "where both reach, the way back may be another chain": there it is not wanted, as with the two chains of `Examples: BothReach`
 pub record BothReachUnwanted : Type 0 where
-  pub there : Wanted (onDay 0 bothReach) 0 A B wayThere → ⊥
-  pub back : Wanted (onDay 0 bothReach) 0 B A wayBack → ⊥
+  pub there : Wanted (onDay 0 bothReach) 0 A B (length wayThere) → ⊥
+  pub back : Wanted (onDay 0 bothReach) 0 B A (length wayBack) → ⊥
