@@ -60,6 +60,7 @@ pub mod Conditions
 pub mod Refusals
 pub mod Agreement
 pub mod Permissions
+pub mod BothReach
 pub mod TurnedChain
 pub mod Positions
 pub mod Bookings
@@ -79,8 +80,8 @@ pub mod Kept
 pub mod Lists
 pub mod SidesWritten
 pub mod Running
+pub mod Reached
 pub mod TakingBack
-pub mod BothReach
 pub mod Segregated
 pub mod Dated
 pub mod Theorems

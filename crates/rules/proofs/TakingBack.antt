@@ -2,7 +2,7 @@
 -- every number that it changes ends where it was, within ±10^15.
 use mathlib.Core.Path.{_≡_, sym, ap, subst, _∙_}
 use mathlib.Core.Logic.{inl, inr}
-use mathlib.Core.List.{List, [], List·Memᴰ}
+use mathlib.Core.List.{List, List·Memᴰ}
 use Prim.Native.Nat.{ℕ, _≤_, _<_}
 use native.Mathlib.Omega.{arith}
 use lib.IntN.{ℤ, pos, _+ℤ_, _-ℤ_}
@@ -12,15 +12,14 @@ use Rattle.rules.specs.Types.{Directory, Half, Step, Booked}
 use Rattle.rules.specs.Directory.{Rows, rowsOf, rowsOn, securityLimit, accountLimit, isKind}
 use Rattle.rules.specs.Chain.{turned, stepLimit}
 use Rattle.rules.specs.Booking.{cashCount, heldIn, cashOn}
-use Rattle.rules.specs.Calls.{Halves, Store, Call, settle, desk, run, emptyStore}
+use Rattle.rules.specs.Calls.{Halves, Store, settle, desk, run}
 use Rattle.rules.specs.Refusals.{ParticipantOrOmnibus, Misfits, settlePositions, settleCash, settleSteps, Delivers}
 use Rattle.rules.specs.Demands.{Within, Agree, Allowed, Bookable, BookedPair}
-use Rattle.rules.specs.Requests.{WantedOf, fromTheOtherEnd, ChainTurns, TakesBack, TakingBack}
+use Rattle.rules.specs.Requests.{WantedOf, fromTheOtherEnd, TakesBack, TakingBack}
 use Rattle.rules.proofs.Basics.{or-cases}
 use Rattle.rules.proofs.Int.{parts-+, up-pos, dn-pos, linear}
 use Rattle.rules.proofs.RowTests.{says-kind-is}
 use Rattle.rules.proofs.AmountRelation.{says-floored}
-use Rattle.rules.proofs.SoundRelation.{says-sound}
 use Rattle.rules.proofs.SideRelation.{delivers-is}
 use Rattle.rules.proofs.Facts.{Facts}
 use Rattle.rules.proofs.Accounts.{kind-small}
@@ -30,32 +29,7 @@ use Rattle.rules.proofs.TurnedChain.{chain-turned}
 use Rattle.rules.proofs.Permissions.{within}
 use Rattle.rules.proofs.Restoring.{out-in, in-out, units-back, cents-back}
 use Rattle.rules.proofs.Settlements.{books}
-use Rattle.rules.proofs.Funds.{Funded}
-use Rattle.rules.proofs.Limits.{Bounded, run-bounded}
-use Rattle.rules.proofs.Kept.{Kept}
-use Rattle.rules.proofs.Lists.{run-kept}
-use Rattle.rules.proofs.Running.{Ready, empty-ready, run-ready}
-
--- ---- what is known of a store that calls have reached
-pub record Reached (st : Store) : Type 0 where
-  pub ready : Ready st
-  pub bounded : Bounded st
-  pub floor : (a s : ℕ) → a < accountLimit → s < securityLimit → ParticipantOrOmnibus (rowsOf (st .directory) .accounts) a → pos 0 ≤ℤ heldIn (st .positions) s a
-  pub funded : Funded (st .cash)
-
-pub run-reached : (cs : List Call) → Reached (run cs .store)
-run-reached cs =
-    let K : Kept (run cs .items) (run cs .store) = run-kept cs in
-    record {
-      ready = run-ready cs (record { items = []; store = emptyStore }) empty-ready;
-      bounded = run-bounded cs;
-      floor = λ a s ha hs f. K .inBalance .floor a s ha hs (says-floored _ a .tests (subst (λ (r : Rows). ParticipantOrOmnibus (r .accounts) a) (K .rows) f));
-      funded = K .funded;
-    }
-
--- ---- the chain
-pub chain-turns : ChainTurns
-chain-turns = record { turns = λ d day s a b steps good x w. chain-turned (rowsOn day d) (sound-gives d (says-sound d .tests good) day) s a b steps x w }
+use Rattle.rules.proofs.Reached.{Reached, run-reached}
 
 -- ---- the pair, once it is booked
 opposite-agree : (r : Rows) (h g : Half) → Agree r h g → Agree r g h

@@ -13,7 +13,8 @@ use Rattle.rules.proofs.Segregated.{duos}
 use Rattle.rules.proofs.Identifiers.{added-while-reading}
 use Rattle.rules.proofs.Dated.{links-of-a-day, fate-of-the-day, on-any-day}
 use Rattle.rules.proofs.Limits.{reached-within}
-use Rattle.rules.proofs.TakingBack.{chain-turns, taking-back}
+use Rattle.rules.proofs.TurnedChain.{chain-turns}
+use Rattle.rules.proofs.TakingBack.{taking-back}
 
 pub demand1 : Demand1
 demand1 = record { desks = desk-refuses; cores = core-refuses; unitsTotals = units-numbered; cashTotals = cents-numbered }

@@ -7,14 +7,16 @@ use Prim.Native.Nat.{ℕ, suc, _≤_}
 use native.Mathlib.Omega.{arith}
 use lib.ListN.{length, length-append}
 use Rattle.rules.specs.Types.{Pair, Step, Join, Meeting}
-use Rattle.rules.specs.Directory.{Rows}
+use Rattle.rules.specs.Directory.{Rows, rowsOn}
 use Rattle.rules.specs.Lookups.{homeOf}
 use Rattle.rules.specs.Chain.{turned, lastOf}
 use Rattle.rules.specs.Relations.{Directs, arrives, takes, follows, DirectedWalk, NoMeeting, NoDirected, Joins, same, meets, ahead, back, issuers, externals, Tops, oneStep, issuanceSteps, noStep, Climbs, stands, rises, ChainIs}
 use Rattle.rules.specs.Requests
-use Rattle.rules.specs.Requests.{Wanted, defaultsMeet, defaultsEnd, justThere, justBack, fromTheOtherEnd}
+use Rattle.rules.specs.Requests.{Wanted, defaultsMeet, defaultsEnd, justThere, justBack, fromTheOtherEnd, ChainTurns}
 use Rattle.rules.proofs.Basics.{impossible}
+use Rattle.rules.proofs.SoundRelation.{says-sound}
 use Rattle.rules.proofs.Facts.{Facts}
+use Rattle.rules.proofs.Soundness.{sound-gives}
 use Rattle.rules.proofs.Paths.{last-one, last-snoc}
 use Rattle.rules.proofs.MeetingRelation.{meets-turned, apart-turned}
 use Rattle.rules.proofs.SidePaths.{directs-end, directs-upward}
@@ -108,3 +110,6 @@ module _ (r : Rows) (F : Facts r) (s a b : ℕ) (steps : List Step) (x : ChainIs
         tops = tops-turned r F s D R (x .join) (x .up) (x .down) (x .fromBelow) (x .toBelow) (x .topSteps) (x .joins) (x .tops);
         whole = ap turned (x .whole) ∙ turned-sides (x .upSteps) (x .topSteps) (x .downSteps);
       }
+
+pub chain-turns : ChainTurns
+chain-turns = record { turns = λ d day s a b steps good x w. chain-turned (rowsOn day d) (sound-gives d (says-sound d .tests good) day) s a b steps x w }
