@@ -18,10 +18,10 @@ use Rattle.rules.specs.Tests.{find}
 use Rattle.rules.specs.Lookups.{Lookups}
 use Rattle.rules.specs.Walks.{Walk, sideLimit, follow, defaultHop, defaultWalk, arrived}
 use Rattle.rules.specs.Chain.{isNamed, firstShared, shared, upTo}
-use Rattle.rules.proofs.Basics.{impossible, clash, unnot, untrue, unfalse, and-both, and-true, any-true, eqb-true, eqb-false}
+use Rattle.rules.proofs.Basics.{impossible, clash, unnot, untrue, unfalse, and-both, and-true, any-true, eqb-true}
 use Rattle.rules.proofs.FirstRow.{none-found, first-found}
-use Rattle.rules.proofs.MeetingRelation.{isShared, named-in}
-use Rattle.rules.proofs.Runs.{Runs, ends, goes, walk-runs}
+use Rattle.rules.proofs.MeetingRelation.{isShared, named-in, up-to-first}
+use Rattle.rules.proofs.Runs.{Runs, ends, goes, walk-runs, one-path}
 use Rattle.walks.specs.Routes.{CommonEnd, MeetAt}
 
 -- ---- a CSD's place in a path
@@ -35,13 +35,6 @@ at-place [] i h = absurd (omega arith)
 at-place (y ∷ l) zero h = List·Memᴰ·head refl
 at-place (y ∷ l) (suc i) h = List·Memᴰ·tail (at-place l i (omega arith))
 
-up-to-first : (m : ℕ) (before after : List ℕ) → (List·Memᴰ m before → ⊥) → upTo m (before ++ (m ∷ after)) ≡ before ++ (m ∷ [])
-unfolding upTo
-up-to-first m [] after fresh = rw (eqb-true m m refl)
-up-to-first m (c ∷ before) after fresh =
-    let other : eqb c m ≡ false = eqb-false c m (λ e. fresh (List·Memᴰ·head (sym e))) in
-    rw (other, up-to-first m before after (λ i. fresh (List·Memᴰ·tail i)))
-
 -- ---- places as far from the ends of two paths of m and of k CSDs
 ahead : (m n i : ℕ) → i + n < m → m - n - 1 ≡ i + (m - i - n - 1)
 ahead m n i l = omega arith
@@ -54,15 +47,6 @@ further m k n i j l b e = omega arith
 
 -- ---- walks by one hop
 module _ (h : ℕ → Hop) where
-  -- from one CSD there is one walk
-  one-path : (c : ℕ) (p q : List ℕ) (d e : WalkEnd) → Runs h c p d → Runs h c q e → p ≡ q
-  one-path c p q d e (ends x) (ends y) = refl
-  one-path c p q d e (ends x) (goes y v) = impossible (cc)
-  one-path c p q d e (goes x u) (ends y) = impossible (cc)
-  one-path c p q d e (goes {n = n} {path = p′} x u) (goes {n = m} {path = q′} y v) =
-      let k : m ≡ n = cc in
-      ap (λ (r : List ℕ). c ∷ r) (one-path n p′ q′ d e u (rw k at v))
-
   -- a walk goes on from each CSD that it names
   runs-from : (c : ℕ) (p : List ℕ) (e : WalkEnd) (i : ℕ) → Runs h c p e → i < length p → Runs h (getD p i 0) (drop i p) e
   runs-from c p e zero (ends x) b = ends x
@@ -73,7 +57,7 @@ module _ (h : ℕ → Hop) where
   module _ (a b : ℕ) (p q : List ℕ) (d e : WalkEnd) (u : Runs h a p d) (v : Runs h b q e) where
     -- two walks that name one CSD go on alike
     level : (i j : ℕ) → i < length p → j < length q → getD p i 0 ≡ getD q j 0 → drop i p ≡ drop j q
-    level i j l m x = one-path (getD p i 0) (drop i p) (drop j q) d e (runs-from a p d i u l) (rw x (runs-from b q e j v m))
+    level i j l m x = one-path h (getD p i 0) (drop i p) (drop j q) d e (runs-from a p d i u l) (rw x (runs-from b q e j v m))
 
     -- as far from their ends
     as-far : (i j : ℕ) → i < length p → j < length q → getD p i 0 ≡ getD q j 0 → length p + j ≡ length q + i
