@@ -1,6 +1,7 @@
 -- What document 02 asks to be shown, a section for each request. Each claim is proved in proofs/.
 use mathlib.Core.Path.{_≡_}
 use mathlib.Core.List.{List, [], _∷_, _++_, map, reverse, List·Memᴰ}
+use mathlib.Core.Logic.{_⊎_}
 use mathlib.Core.Option.{Option, none, some}
 use mathlib.Core.Bool.{true}
 use Prim.Native.Nat.{ℕ, _+_, _-_, _%_, _≤_, _<_}
@@ -306,12 +307,21 @@ pub data Wanted (r : Rows) (s D R K : ℕ) : Type 0 where
   justThere : {path : List ℕ} → DirectedWalk (r .csds) (r .links) s R D path → NoDirected (r .csds) (r .links) s D R → Wanted r s D R K
   justBack : {path : List ℕ} → NoDirected (r .csds) (r .links) s R D → DirectedWalk (r .csds) (r .links) s D R path → Wanted r s D R K
 
--- the chain turns round with its accounts: where this is wanted, the chain from b to a is that from a to b from the other end. Over the rows of a day of any sound
--- directory
+-- "both reach"
+pub record BothReach (r : Rows) (s D R : ℕ) : Type 0 where
+  pub there : (path : List ℕ) × DirectedWalk (r .csds) (r .links) s R D path
+  pub back : (path : List ℕ) × DirectedWalk (r .csds) (r .links) s D R path
+
+-- Over the rows of a day of any sound directory, of the chain from the account a to the account b:
 pub record ChainTurns : Type 0 where
+  -- where it is wanted, the chain from b to a is the same from the other end
   pub turns : (d : Directory) (day s a b : ℕ) (steps : List Step) → Sound d → ChainIs (rowsOn day d) s a b steps
       → Wanted (rowsOn day d) s (homeOf (rowsOf d .accounts) a) (homeOf (rowsOf d .accounts) b) (length steps)
       → ChainIs (rowsOn day d) s b a (fromTheOtherEnd steps)
+  -- and it is wanted unless both directed walks reach
+  pub unless : (d : Directory) (day s a b : ℕ) (steps : List Step) → Sound d → ChainIs (rowsOn day d) s a b steps
+      → Wanted (rowsOn day d) s (homeOf (rowsOf d .accounts) a) (homeOf (rowsOf d .accounts) b) (length steps)
+      ⊎ BothReach (rowsOn day d) s (homeOf (rowsOf d .accounts) a) (homeOf (rowsOf d .accounts) b)
 
 -- the pair of the half h, which delivers, and g, which receives, is one for which it is wanted
 abbrev pub WantedOf : Store → ℕ → Half → Half → ℕ → Type 0
@@ -338,7 +348,9 @@ pub record TakingBack : Type 0 where
       → desk (settle pair day lent) (run cs .store) .answer ≡ Booked K → WantedOf (run cs .store) day h g K
       → TakesBack (run cs .store) day h g K again (desk (settle opposite day again) (desk (settle pair day lent) (run cs .store) .store))
 
--- "where both reach, the way back may be another chain": there it is not wanted, as with the two chains of `Examples: BothReach`
-pub record BothReachUnwanted : Type 0 where
+-- "where both reach, the way back may be another chain": so in the directory of `Examples: AnotherWayBack`, where it is wanted neither of the chain there nor of
+-- the one back
+pub record BothReachShown : Type 0 where
+  pub both : BothReach (onDay 0 bothReach) 0 A B
   pub there : Wanted (onDay 0 bothReach) 0 A B (length wayThere) → ⊥
   pub back : Wanted (onDay 0 bothReach) 0 B A (length wayBack) → ⊥
