@@ -1,5 +1,6 @@
 //! Chains that the documents show, by name: all of "Chains by example" of document 01, the walks that it
-//! words, and the examples 24, 122 to 126 and 130 of document 000 with their accounts and triplets.
+//! words, and the examples 24, 122 to 126 and 130 of document 000 with their accounts and triplets. Pairs taken back as
+//! ask 6 of document 02 has it, in each way that the chain rule knows.
 //!
 //! Links are written as in document 01: "A>C>I" are default links from A to C and from C to I, "C~B" is an
 //! alternative; I and J are issuers, X and Y external. Every CSD in T2S has a participant; it and every omnibus account
@@ -29,11 +30,16 @@ struct Example {
 impl Example {
     fn new(links: &str) -> Example {
         let mut example = Example::without_rows(links);
-        let participants: Vec<u16> =
-            example.accounts.iter().filter(|(_, name)| name.starts_with("Part")).map(|(&number, _)| number).collect();
-        example.scenario.serve_along(&participants, &example.hops, |_| Some(0));
-        example.name_accounts();
+        example.enter_rows();
         example
+    }
+
+    /// Enters the rows of every participant along all hops.
+    fn enter_rows(&mut self) {
+        let participants: Vec<u16> =
+            self.accounts.iter().filter(|(_, name)| name.starts_with("Part")).map(|(&number, _)| number).collect();
+        self.scenario.serve_along(&participants, &self.hops, |_| Some(0));
+        self.name_accounts();
     }
 
     fn without_rows(links: &str) -> Example {
@@ -69,10 +75,15 @@ impl Example {
             self.accounts.insert(account, format!("Part {name}"));
         }
         if matches!(name, 'I' | 'J') {
-            let account = self.scenario.own_account(csd, ISSUANCE);
-            self.accounts.insert(account, format!("Issuance {name}"));
-            self.scenario.issuer(SECURITY, csd);
+            self.enter_issuer(name);
         }
+    }
+
+    fn enter_issuer(&mut self, name: char) {
+        let csd = self.csds[&name];
+        let account = self.scenario.own_account(csd, ISSUANCE);
+        self.accounts.insert(account, format!("Issuance {name}"));
+        self.scenario.issuer(SECURITY, csd);
     }
 
     fn enter_link(&mut self, investor: char, technical: char, flag: u8) {
@@ -195,13 +206,18 @@ impl Example {
         Ok(names.join(" "))
     }
 
-    /// The steps of the chain as lines: CSD, account debited, account credited.
+    /// The steps of the chain as lines.
     fn accounts(&self, from: char, to: char) -> Vec<String> {
+        self.lines(&self.steps(from, to).unwrap())
+    }
+
+    /// A line for each step: CSD, account debited, account credited.
+    fn lines(&self, steps: &[Step]) -> Vec<String> {
         let line = |step: &Step| {
             let account = |number| &self.accounts[&number];
             format!("{}: {} > {}", self.name(step.csd), account(step.debit), account(step.credit))
         };
-        self.steps(from, to).unwrap().iter().map(line).collect()
+        steps.iter().map(line).collect()
     }
 }
 
@@ -554,5 +570,230 @@ mod documents_001_and_003 {
     fn cr_0797_example_38_alternative_to_the_counterpart() {
         assert_eq!(Example::new("A>C>I, B>J, C~J").chain('A', 'J'), is("A C J"));
         assert_eq!(Example::new("A>C>I, B>J, C~J").chain('A', 'B'), is("A C I J B"));
+    }
+}
+
+/// Document 02, ask 6: "Taking a delivery back".
+mod taking_back {
+    use super::*;
+    use checker::command::Command;
+    use checker::proved::Proved;
+
+    /// The chain of a pair, that of the opposite one or its refusal, and the positions that are then not what they were.
+    type Both = (Vec<String>, Result<Vec<String>, u8>, Vec<String>);
+
+    impl Example {
+        /// Brings 100 in on the first participant of a path, and settles it from each to the next.
+        fn hold(&mut self, path: &str) {
+            let path: Vec<u16> = path.chars().map(|name| self.account(&format!("Part {name}"))).collect();
+            assert!(self.scenario.bring_in(path[0], SECURITY, 100).is_ok());
+            for hop in path.windows(2) {
+                assert!(self.scenario.settle(hop[0], hop[1], SECURITY, 100, 0).is_ok());
+            }
+        }
+
+        /// Settles 20 and then the opposite pair, in every form and with an amount or without, by the model and by the
+        /// proved library.
+        fn take_back(&mut self, from: char, to: char) -> Both {
+            let [from, to] = [from, to].map(|name| self.account(&format!("Part {name}")));
+            for account in [from, to] {
+                assert!(self.scenario.pay_in(account, 7).is_ok());
+            }
+            let mut all = Vec::new();
+            for (form, amount) in FORMS.into_iter().flat_map(|form| [0, 7].map(|amount| (form, amount))) {
+                let (one, other) = halves(self.scenario.directory(), from, to, SECURITY, 20, amount);
+                let pairs = [form.settle(one, other, DAY), form.settle(other, one, DAY)];
+                all.push(self.settle_both(&mut Model, pairs));
+                all.push(self.settle_both(&mut Proved::default(), pairs));
+            }
+            assert!(all.iter().all(|both| *both == all[0]));
+            all.swap_remove(0)
+        }
+
+        /// The same over the store that all calls so far have made out of the empty one.
+        fn settle_both(&self, subject: &mut impl Implementation, [pair, opposite]: [Command; 2]) -> Both {
+            let before = Store {
+                directory: self.scenario.directory().clone(),
+                positions: self.scenario.session.positions().to_vec(),
+                cash: self.scenario.session.cash().to_vec(),
+                steps: vec![Step::default(); 16],
+            };
+            let mut left = before.clone();
+            let Answer::Booked(length) = subject.call(&mut left, &Call::Command(pair)) else { panic!("{pair:?}") };
+            let there = self.lines(&left.steps[..length]);
+            let mut after = left.clone();
+            match subject.call(&mut after, &Call::Command(opposite)) {
+                Answer::Booked(length) => {
+                    assert!(after.directory == before.directory && after.cash == before.cash);
+                    (there, Ok(self.lines(&after.steps[..length])), self.changes(&before, &after))
+                }
+                Answer::Refused(number) => {
+                    assert!(after == left);
+                    (there, Err(number), self.changes(&before, &after))
+                }
+                answer => panic!("{answer:?} to {opposite:?}"),
+            }
+        }
+
+        /// The positions in which two stores differ.
+        fn changes(&self, before: &Store, after: &Store) -> Vec<String> {
+            let accounts = self.scenario.directory().accounts.entered().unwrap();
+            let line = |(number, row): (usize, &Account)| {
+                let [before, after] = [before, after].map(|store| store.positions[number * SECURITIES].0);
+                let name = || format!("{}: {}", self.name(row.csd), self.accounts[&(number as u16)]);
+                (before != after).then(|| format!("{}, {before} > {after}", name()))
+            };
+            let mut lines: Vec<String> = accounts.iter().enumerate().filter_map(line).collect();
+            lines.sort();
+            lines
+        }
+    }
+
+    fn holding(links: &str, path: &str) -> Example {
+        let mut example = Example::new(links);
+        example.hold(path);
+        example
+    }
+
+    /// The pair goes there, the opposite one back by the same chain, and all is as it was.
+    fn is_restored(mut example: Example, [from, to]: [char; 2], there: &[&str], back: &[&str]) {
+        let (first, second, changes) = example.take_back(from, to);
+        assert_eq!(first, there);
+        assert_eq!(second.unwrap(), back);
+        assert!(changes.is_empty(), "{changes:?}");
+    }
+
+    #[test]
+    fn a_chain_of_one_step() {
+        let mut example = holding("A>X", "A");
+        example.participant('A', 'Z');
+        is_restored(example, ['A', 'Z'], &["A: Part A > Part Z"], &["A: Part Z > Part A"]);
+    }
+
+    #[test]
+    fn default_walks_that_meet() {
+        let there = [
+            "A: Part A > Mirror A-C",
+            "C: Omnibus A > Mirror C-I",
+            "I: Omnibus C > Omnibus D",
+            "D: Mirror D-I > Omnibus B",
+            "B: Mirror B-D > Part B",
+        ];
+        let back = [
+            "B: Part B > Mirror B-D",
+            "D: Omnibus B > Mirror D-I",
+            "I: Omnibus D > Omnibus C",
+            "C: Mirror C-I > Omnibus A",
+            "A: Mirror A-C > Part A",
+        ];
+        is_restored(holding("A>C>I, B>D>I", "IA"), ['A', 'B'], &there, &back);
+    }
+
+    #[test]
+    fn two_issuers() {
+        let there = [
+            "A: Part A > Mirror A-I",
+            "I: Omnibus A > Issuance I",
+            "J: Issuance J > Omnibus B",
+            "B: Mirror B-J > Part B",
+        ];
+        let back = [
+            "B: Part B > Mirror B-J",
+            "J: Omnibus B > Issuance J",
+            "I: Issuance I > Omnibus A",
+            "A: Mirror A-I > Part A",
+        ];
+        is_restored(holding("A>I, B>J", "IA"), ['A', 'B'], &there, &back);
+    }
+
+    #[test]
+    fn two_external_ends() {
+        let there = ["A: Part A > Inter CSD A-X", "B: Inter CSD B-Y > Part B"];
+        let back = ["B: Part B > Inter CSD B-Y", "A: Inter CSD A-X > Part A"];
+        is_restored(holding("A>X, B>Y", "A"), ['A', 'B'], &there, &back);
+    }
+
+    #[test]
+    fn just_one_directed_walk_reaches() {
+        let links = "A>C>X, B>D>X, C~B";
+        let from_a = ["A: Part A > Mirror A-C", "C: Omnibus A > Mirror C-B", "B: Omnibus C > Part B"];
+        let from_b = ["B: Part B > Omnibus C", "C: Mirror C-B > Omnibus A", "A: Mirror A-C > Part A"];
+        is_restored(holding(links, "DBA"), ['A', 'B'], &from_a, &from_b);
+        is_restored(holding(links, "DB"), ['B', 'A'], &from_b, &from_a);
+    }
+
+    /// A holds with B by default, and got what it holds on day 1. On day 0 B does not issue, so that default walks end
+    /// without a link.
+    fn held_since_day_1() -> Example {
+        let mut example = Example::without_rows("A>B");
+        example.scenario.days = Period::new(1, Day::MAX);
+        example.enter_issuer('B');
+        example.enter_rows();
+        example.scenario.day = 1;
+        example.hold("BA");
+        example
+    }
+
+    #[test]
+    fn just_one_directed_walk_reaches_by_default_links_alone() {
+        let there = ["A: Part A > Mirror A-B", "B: Omnibus A > Part B"];
+        let back = ["B: Part B > Omnibus A", "A: Mirror A-B > Part A"];
+        is_restored(held_since_day_1(), ['A', 'B'], &there, &back);
+    }
+
+    #[test]
+    fn both_directed_walks_reach_by_default_links_alone() {
+        let mut example = held_since_day_1();
+        example.scenario.days = Period::new(DAY, DAY);
+        example.enter_link('B', 'A', DEFAULT);
+        example.enter_rows();
+        let (there, back, _) = example.take_back('A', 'B');
+        assert_eq!(there, ["A: Part A > Mirror A-B", "B: Omnibus A > Part B"]);
+        assert_eq!(example.accounts('B', 'A'), ["B: Part B > Mirror B-A", "A: Omnibus B > Part A"]);
+        assert_eq!(back, Err(20));
+    }
+
+    /// The chains of a pair and of the opposite one where both reach.
+    const FROM_A: [&str; 3] = ["A: Part A > Mirror A-C", "C: Omnibus A > Mirror C-B", "B: Omnibus C > Part B"];
+    const FROM_B: [&str; 2] = ["B: Part B > Mirror B-A", "A: Omnibus B > Part A"];
+
+    #[test]
+    fn both_directed_walks_reach_and_the_way_back_is_refused() {
+        let mut example = holding("A>C>I, B>J, C~B, B~A", "IA");
+        example.hold("JBC");
+        let (there, back, changes) = example.take_back('A', 'B');
+        assert_eq!(there, FROM_A);
+        assert_eq!(example.accounts('B', 'A'), FROM_B);
+        assert_eq!(back, Err(20));
+        let moved = [
+            "A: Mirror A-C, -100 > -80",
+            "A: Part A, 100 > 80",
+            "B: Omnibus C, 100 > 80",
+            "B: Part B, 0 > 20",
+            "C: Mirror C-B, -100 > -80",
+            "C: Omnibus A, 100 > 80",
+        ];
+        assert_eq!(changes, moved);
+    }
+
+    #[test]
+    fn both_directed_walks_reach_and_the_way_back_is_another_chain() {
+        let mut example = holding("A>C>I, B>J, B~A", "IAB");
+        example.enter_link('C', 'B', ALTERNATIVE);
+        example.enter_rows();
+        example.hold("IA");
+        example.hold("JBC");
+        let (there, back, changes) = example.take_back('A', 'B');
+        assert_eq!(there, FROM_A);
+        assert_eq!(back.unwrap(), FROM_B);
+        let moved = [
+            "A: Mirror A-C, -200 > -180",
+            "A: Omnibus B, 100 > 80",
+            "B: Mirror B-A, -100 > -80",
+            "B: Omnibus C, 100 > 80",
+            "C: Mirror C-B, -100 > -80",
+            "C: Omnibus A, 200 > 180",
+        ];
+        assert_eq!(changes, moved);
     }
 }

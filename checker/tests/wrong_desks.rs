@@ -914,6 +914,145 @@ mod days {
     }
 }
 
+/// Document 02, ask 6: "Taking a delivery back".
+mod taking_back {
+    use super::*;
+    use checker::trial::forms::FORMS;
+    use checker::trial::taking_back::BookedPair;
+
+    /// A booked pair, with the stores before it and after.
+    struct Last {
+        call: Call,
+        answer: Answer,
+        before: Store,
+        left: Store,
+    }
+
+    impl Last {
+        /// Whether a call over a store is the opposite pair, with nothing in between.
+        fn is_opposite(&self, call: &Call, store: &Store) -> bool {
+            let Last { call: booked, answer, before, left } = self;
+            let pair = BookedPair::of(booked, answer, (before.positions.clone(), before.cash.clone()), left);
+            let opposite = |pair: BookedPair| FORMS.iter().any(|&form| Call::Command(pair.opposite(form)) == *call);
+            store.positions == left.positions && store.cash == left.cash && pair.is_some_and(opposite)
+        }
+    }
+
+    /// A change of the model's answer to the opposite pair and of the store that it left, given the pair booked last and
+    /// the store before.
+    type Mistake = fn(&Last, &Call, &Store, &mut Store, Answer) -> Answer;
+
+    /// A desk that is wrong about the opposite of the pair booked last, and about nothing else.
+    struct WrongWayBack {
+        mistake: Mistake,
+        last: Option<Last>,
+    }
+
+    impl Implementation for WrongWayBack {
+        fn call(&mut self, store: &mut Store, call: &Call) -> Answer {
+            let before = store.clone();
+            let answer = Model.call(store, call);
+            if let Some(last) = self.last.as_ref().filter(|last| last.is_opposite(call, &before)) {
+                return (self.mistake)(last, call, &before, store, answer);
+            }
+            if matches!(answer, Answer::Booked(_)) {
+                self.last = Some(Last { call: *call, answer, before, left: store.clone() });
+            }
+            answer
+        }
+    }
+
+    /// Lists of calls notice it when they take a pair back.
+    fn is_caught(mistake: Mistake) {
+        let caught = (1..1000).find_map(|seed| {
+            let mut desk = WrongWayBack { mistake, last: None };
+            differential::list_of(&streams::stream(seed), seed, &mut desk, &mut Coverage::default()).err()
+        });
+        println!("{caught:?}");
+        assert!(caught.is_some_and(|text| text.contains("taken back")));
+    }
+
+    /// Nothing is wrong with the desk itself.
+    #[test]
+    fn no_mistake_is_not_caught() {
+        let mut desk = WrongWayBack { mistake: |_, _, _, _, answer| answer, last: None };
+        for seed in 1..200 {
+            let listed = differential::list_of(&streams::stream(seed), seed, &mut desk, &mut Coverage::default());
+            assert_eq!(listed, Ok(()));
+        }
+    }
+
+    #[test]
+    fn the_opposite_pair_is_refused() {
+        is_caught(|_, _, before, store, _| {
+            store.clone_from(before);
+            Answer::Refused(13)
+        });
+    }
+
+    /// What the pair before brought cannot be used yet.
+    #[test]
+    fn sums_are_judged_on_the_store_before_the_pair() {
+        is_caught(|last, call, before, store, answer| {
+            let mut judged = last.before.clone();
+            judged.steps.clone_from(&before.steps);
+            match Model.call(&mut judged, call) {
+                Answer::Refused(number) => {
+                    store.clone_from(before);
+                    Answer::Refused(number)
+                }
+                _ => answer,
+            }
+        });
+    }
+
+    #[test]
+    fn the_cash_stays_where_it_is() {
+        is_caught(|_, _, before, store, answer| {
+            store.cash.clone_from(&before.cash);
+            answer
+        });
+    }
+
+    #[test]
+    fn steps_run_as_in_the_first_chain() {
+        is_caught(|last, _, _, store, answer| {
+            if let (Answer::Booked(length), Answer::Booked(first)) = (answer, last.answer) {
+                let steps = length.min(first);
+                store.steps[..steps].copy_from_slice(&last.left.steps[..steps]);
+            }
+            answer
+        });
+    }
+
+    #[test]
+    fn all_steps_of_the_first_chain_are_kept() {
+        is_caught(|last, _, _, store, answer| {
+            if let Answer::Booked(length) = answer {
+                if store.steps.len() >= 2 * length {
+                    store.steps[length..2 * length].copy_from_slice(&last.left.steps[..length]);
+                }
+            }
+            answer
+        });
+    }
+
+    /// "Where both reach, the way back may be another chain."
+    #[test]
+    fn the_chain_is_turned_round_where_both_walks_reach() {
+        is_caught(|last, _, before, store, answer| {
+            let Answer::Booked(length) = last.answer else { return answer };
+            store.positions.clone_from(&last.before.positions);
+            store.cash.clone_from(&last.before.cash);
+            store.steps.clone_from(&before.steps);
+            for (place, step) in last.left.steps[..length].iter().rev().enumerate() {
+                store.steps[place] = Step { csd: step.csd, debit: step.credit, credit: step.debit };
+            }
+            last.answer
+        });
+    }
+}
+
 /// A failing stream comes down to the few commands that it takes.
 #[test]
 fn a_failing_stream_is_shortened() {

@@ -14,8 +14,8 @@ pub struct Balances {
     pub rows: Rows,
     /// A mirror and an omnibus that one accepted row names, once however many rows share them.
     duos: BTreeSet<(u16, u16)>,
-    positions: Vec<Units>,
-    cash: Vec<Cents>,
+    pub positions: Vec<Units>,
+    pub cash: Vec<Cents>,
     brought_in: [i128; SECURITIES],
     paid_in: i128,
 }

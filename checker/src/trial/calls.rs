@@ -62,8 +62,20 @@ pub fn call(random: &mut Random, store: &Store) -> (Call, Vec<Step>) {
 
 /// A lent step list of any length and content.
 pub fn steps(random: &mut Random) -> Vec<Step> {
-    let short = random.percent(5);
-    let length = if short { random.pick(&[0, 1, 15]) } else { random.pick(&[16, 16, 16, 17, 20, 300]) };
+    if random.percent(5) {
+        let length = random.pick(&[0, 1, 15]);
+        return steps_of(length, random);
+    }
+    enough_steps(random)
+}
+
+/// A lent step list of any content that is long enough.
+pub fn enough_steps(random: &mut Random) -> Vec<Step> {
+    let length = random.pick(&[16, 16, 16, 17, 20, 300]);
+    steps_of(length, random)
+}
+
+fn steps_of(length: usize, random: &mut Random) -> Vec<Step> {
     let mut step = || Step { csd: random.byte(), debit: random.bits() as u16, credit: random.bits() as u16 };
     let one = step();
     let mut list = vec![one; length];

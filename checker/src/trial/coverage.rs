@@ -7,6 +7,7 @@ use std::ops::RangeInclusive;
 use super::climbs::{all_hops, HopWay, Source, Turn, SOURCES, TURNS};
 use super::implementation::{Answer, Call};
 use super::literal::{day_of, in_order, ChainKind, Rows};
+use super::taking_back::{self, TakenBack};
 use super::{days, linking, pairing};
 use crate::command::Command;
 use crate::directory::{Bic, Csd};
@@ -110,6 +111,7 @@ pub struct Coverage {
     hops: BTreeMap<(HopWay, u8), u64>,
     turns: BTreeMap<Turn, u64>,
     sources: BTreeMap<(&'static str, (Source, u8)), u64>,
+    taken_back: BTreeMap<TakenBack, u64>,
 }
 
 /// The name of a command by its byte.
@@ -244,6 +246,11 @@ impl Coverage {
         *self.chains.entry((name, kind, length)).or_default() += 1;
     }
 
+    /// Counts a booked pair that was taken back.
+    pub fn taken_back(&mut self, taken_back: TakenBack) {
+        *self.taken_back.entry(taken_back).or_default() += 1;
+    }
+
     pub fn answers(&self) -> u64 {
         self.answers.values().sum()
     }
@@ -252,7 +259,9 @@ impl Coverage {
     pub fn of_streams(&self) -> Vec<String> {
         let expected = COMMANDS.iter().flat_map(|&(_, name, refusals, _)| numbered(name, &[refusals, &[0]].concat()));
         let wrong = compare(&self.answers, expected.chain([(UNKNOWN, 1), (FORMER, 1)]).collect());
-        [wrong, self.sides_missing(), self.names_missing(), self.rows_missing(), self.chains_missing()].concat()
+        let taken_back = compare(&self.taken_back, taking_back::all_ways());
+        let chains = self.chains_missing();
+        [wrong, self.sides_missing(), self.names_missing(), self.rows_missing(), chains, taken_back].concat()
     }
 
     /// The same for single calls.
@@ -369,6 +378,9 @@ impl Display for Coverage {
         }
         for ((name, kind, length), times) in &self.chains {
             writeln!(formatter, "{name:30} {kind:?} of {length}: {times}")?;
+        }
+        for ((way, came_of_it, form, payment), times) in &self.taken_back {
+            writeln!(formatter, "taken back, {way:?} {payment:?}, {form:?}: {came_of_it:?} {times}")?;
         }
         Ok(())
     }

@@ -6,12 +6,13 @@ use super::calls;
 use super::commands;
 use super::coverage::{command_name, Coverage};
 use super::forms::{others, turned_stream};
-use super::implementation::{copy, same, Answer, Call, Implementation, Model, Program, Store};
+use super::implementation::{copy, difference, Answer, Call, Implementation, Model, Program, Store};
 use super::linking;
 use super::literal::{day_of, in_order, Rows};
 use super::pairing;
 use super::random::Random;
 use super::streams;
+use super::taking_back::BookedPair;
 use crate::booking::{Cents, Units};
 use crate::chain::{Step, STEPS};
 use crate::command::{Command, Reader};
@@ -227,12 +228,7 @@ fn list_of_calls(
             }
         };
         let call = Call::Command(command);
-        lend_steps(&mut random, &mut store, subject, &call).map_err(place)?;
-        let answer = answer_in_every_form(subject, &mut store, &call).map_err(place)?;
-        coverage.call(&call, &answer, &balances.rows);
-        same_row(&balances.rows, &call, &answer).map_err(place)?;
-        same_chain(&balances.rows, &call, &answer, &store.steps, coverage).map_err(place)?;
-        balances.after(&call, &answer, &store).map_err(place)?;
+        let answer = next_call(&call, &mut random, &mut store, &mut balances, subject, coverage).map_err(place)?;
         print(&mut text, number, &answer, &store.steps)?;
     }
     print_totals(&mut text, &mut store, subject)?;
@@ -240,6 +236,29 @@ fn list_of_calls(
         return Err("another directory than the accepted rows make".into());
     }
     Ok(text.bytes)
+}
+
+/// Makes the next call of a list and judges it: by the literal readings, by demand 3, and a booked pair by what comes
+/// of taking it back.
+fn next_call(
+    call: &Call,
+    random: &mut Random,
+    store: &mut Store,
+    balances: &mut Balances,
+    subject: &mut impl Implementation,
+    coverage: &mut Coverage,
+) -> Result<Answer, String> {
+    lend_steps(random, store, subject, call)?;
+    let answer = answer_in_every_form(subject, store, call)?;
+    coverage.call(call, &answer, &balances.rows);
+    same_row(&balances.rows, call, &answer)?;
+    same_chain(&balances.rows, call, &answer, &store.steps, coverage)?;
+    let before = matches!(answer, Answer::Booked(_)).then(|| (balances.positions.clone(), balances.cash.clone()));
+    balances.after(call, &answer, store)?;
+    if let Some(pair) = before.and_then(|before| BookedPair::of(call, &answer, before, store)) {
+        pair.take_back(&balances.rows, random, subject, coverage)?;
+    }
+    Ok(answer)
 }
 
 /// Lends a call steps enough. A list too short is tried first where chance has it so, and must be
@@ -373,15 +392,4 @@ fn same_text(expected: &[u8], printed: &[u8]) -> Result<(), String> {
         }
     }
     Ok(())
-}
-
-/// The part in which two stores differ.
-fn difference(one: &Store, other: &Store) -> Option<&'static str> {
-    let parts = [
-        ("directory", one.directory == other.directory),
-        ("list of positions", same(&one.positions, &other.positions)),
-        ("list of cash", same(&one.cash, &other.cash)),
-        ("list of steps", one.steps == other.steps),
-    ];
-    parts.iter().find(|(_, same)| !same).map(|&(part, _)| part)
 }

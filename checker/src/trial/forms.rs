@@ -5,7 +5,7 @@ use crate::booking::{Half, SidedHalf, DELIVERING, RECEIVING};
 use crate::command::{Command, Reader};
 use crate::directory::Day;
 
-#[derive(Clone, Copy, PartialEq, Eq, Debug)]
+#[derive(Clone, Copy, PartialEq, Eq, PartialOrd, Ord, Debug)]
 pub enum Form {
     ByPlace,
     DeliveringFirst,
@@ -13,6 +13,9 @@ pub enum Form {
 }
 
 pub const FORMS: [Form; 3] = [Form::ByPlace, Form::DeliveringFirst, Form::ReceivingFirst];
+
+/// The forms with sides.
+pub const SIDED: [Form; 2] = [Form::DeliveringFirst, Form::ReceivingFirst];
 
 /// Sides of two halves that are refused 23.
 pub const SAME_SIDES: [[u8; 2]; 2] = [[0, 0], [1, 1]];

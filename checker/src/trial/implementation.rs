@@ -44,6 +44,17 @@ pub fn same<Number: PartialEq>(one: &[Number], other: &[Number]) -> bool {
     one.len() == other.len() && one.chunks(64).zip(other.chunks(64)).all(same_piece)
 }
 
+/// The part in which two stores differ.
+pub fn difference(one: &Store, other: &Store) -> Option<&'static str> {
+    let parts = [
+        ("directory", one.directory == other.directory),
+        ("list of positions", same(&one.positions, &other.positions)),
+        ("list of cash", same(&one.cash, &other.cash)),
+        ("list of steps", one.steps == other.steps),
+    ];
+    parts.iter().find(|(_, same)| !same).map(|&(part, _)| part)
+}
+
 /// A call of the desk: what a stream can command, and the totals that the program prints.
 #[derive(Clone, Copy, PartialEq, Eq, Debug)]
 pub enum Call {

@@ -92,6 +92,19 @@ pub enum ChainKind {
     BothOutside,
 }
 
+/// Ask 6's distinction: "chains of one step", "default chains" (where default walks meet, and the two ends that go
+/// together), "where just one of the two directed walks reaches", and "where both reach".
+#[derive(Clone, Copy, PartialEq, Eq, PartialOrd, Ord, Debug)]
+pub enum Way {
+    OneStep,
+    DefaultsMeet,
+    TwoIssuers,
+    TwoExternalEnds,
+    OnlyFromDelivering,
+    OnlyFromReceiving,
+    BothReach,
+}
+
 #[derive(Clone, Copy, PartialEq, Eq)]
 enum End {
     Inside,
@@ -187,7 +200,7 @@ impl Rows {
 
     /// The route between two participant accounts, pair rows unread, or the refusal number.
     pub fn route(&self, security: u8, delivering: u16, receiving: u16) -> Result<Route, u8> {
-        let [d, r] = [delivering, receiving].map(|account| self.accounts[usize::from(account)].csd);
+        let [d, r] = self.csds_of([delivering, receiving]);
         let route = |kind, up, down| Ok(Route { kind, up, down });
         if d == r {
             return route(ChainKind::OneCsd, vec![d], vec![r]);
@@ -214,6 +227,26 @@ impl Rows {
             (End::Inside, End::Inside) => route(ChainKind::TwoIssuers, from_d, from_r),
             (End::Outside, End::Outside) => route(ChainKind::BothOutside, from_d, from_r),
         }
+    }
+
+    /// The way between two participant accounts, or the refusal number.
+    pub fn way(&self, security: u8, delivering: u16, receiving: u16) -> Result<Way, u8> {
+        let [d, r] = self.csds_of([delivering, receiving]);
+        Ok(match self.route(security, delivering, receiving)?.kind {
+            ChainKind::OneCsd => Way::OneStep,
+            ChainKind::SharedInside | ChainKind::SharedOutside => Way::DefaultsMeet,
+            ChainKind::TwoIssuers => Way::TwoIssuers,
+            ChainKind::BothOutside => Way::TwoExternalEnds,
+            ChainKind::DirectedFromReceiving => Way::OnlyFromReceiving,
+            ChainKind::DirectedFromDelivering => match self.directed_walk(security, r, d, 8) {
+                None => Way::OnlyFromDelivering,
+                Some(_) => Way::BothReach,
+            },
+        })
+    }
+
+    fn csds_of(&self, accounts: [u16; 2]) -> [u8; 2] {
+        accounts.map(|account| self.accounts[usize::from(account)].csd)
     }
 
     /// Names every CSD from here to the end, an external one included.

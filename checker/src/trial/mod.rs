@@ -21,4 +21,5 @@ pub mod refused;
 pub mod scenario;
 pub mod segregated;
 pub mod streams;
+pub mod taking_back;
 pub mod vectors;

@@ -58,6 +58,7 @@ pub fn scenario(random: &mut Random) -> Scenario {
         41 => writer.full_tables(),
         42..=50 => writer.around_the_bound(),
         51..=54 => writer.links_in_time(),
+        55 | 56 => writer.both_ways(),
         _ => writer.commands_at_random(),
     }
     writer.scenario
@@ -531,6 +532,78 @@ impl Writer<'_> {
         for _ in 0..self.random.between(10, 60) {
             let command = commands::command(self.random, self.scenario.directory());
             let _ = self.scenario.send(command);
+        }
+    }
+
+    /// Two CSDs whose default walks do not meet and that reach each other both ways: by an alternative from day 0, by
+    /// another to the last day, and by both on the days between. What is settled on the days of one alone comes to stand
+    /// on the omnibus accounts that its walk draws on.
+    fn both_ways(&mut self) {
+        let security = self.scenario.security();
+        let sides = [self.own_side(security), self.own_side(security)];
+        let ends = [sides[0][0], sides[1][0]];
+        let first = self.random.between(1, usize::from(Day::MAX) - 3) as Day;
+        let between = Period::new(first, first + self.random.below(3) as Day);
+        let mut hops = [hops_of(&sides[0]), hops_of(&sides[1])].concat();
+        let days = [Period::new(0, between.last), Period::new(between.first, Day::MAX)];
+        for (place, days) in days.into_iter().enumerate() {
+            let investors = &sides[place][..sides[place].len() - 1];
+            let alternative = (self.random.pick(investors), ends[1 - place]);
+            self.scenario.days = days;
+            self.scenario.link(security, alternative.0, alternative.1, ALTERNATIVE);
+            hops.push(alternative);
+        }
+        self.scenario.days = Period::ALWAYS;
+        let csds: Vec<u8> = sides.concat().into_iter().filter(|&csd| !self.scenario.is_external(csd)).collect();
+        let participants: Vec<u16> = csds.iter().map(|&csd| self.scenario.participant(csd)).collect();
+        self.scenario.serve_along(&participants, &hops, |_| Some(0));
+        let ends = ends.map(|csd| self.scenario.participant(csd));
+        for &account in &participants {
+            let _ = self.scenario.bring_in(account, security, 1_000);
+            for end in ends {
+                let _ = self.scenario.settle(account, end, security, 400, 0);
+            }
+        }
+        for (day, from, to) in [(0, ends[1], ends[0]), (Day::MAX, ends[0], ends[1])] {
+            self.scenario.day = day;
+            let quantity = self.random.between(1, 200) as i64;
+            let _ = self.scenario.settle(from, to, security, quantity, 0);
+        }
+        self.trade_both_ways(security, ends, between);
+    }
+
+    /// A side of its own to an issuer or outside, by default links. Every CSD but the last is an investor.
+    fn own_side(&mut self, security: u8) -> Vec<u8> {
+        let mut side: Vec<u8> = (0..self.random.between(1, 3)).map(|_| self.scenario.csd(IN_T2S)).collect();
+        let end = if self.random.percent(50) {
+            let issuer = self.scenario.csd(IN_T2S);
+            self.scenario.issuer(security, issuer);
+            issuer
+        } else {
+            self.external(security, &side)
+        };
+        side.push(end);
+        for (csd, technical) in hops_of(&side) {
+            self.scenario.link(security, csd, technical, DEFAULT);
+        }
+        side
+    }
+
+    /// Settles between two accounts, and two others of their CSDs that have no rows, on the days on which both reach.
+    fn trade_both_ways(&mut self, security: u8, ends: [u16; 2], days: Period) {
+        let seconds = ends.map(|end| self.scenario.account(self.scenario.csd_of(end), PARTICIPANT));
+        let accounts = [ends, ends, seconds].concat();
+        for &account in &accounts {
+            let _ = self.scenario.pay_in(account, 100);
+        }
+        for _ in 0..self.random.between(8, 16) {
+            self.disturb();
+            let (from, to) = (self.random.pick(&accounts), self.random.pick(&accounts));
+            let most = self.random.pick(&[9, 99, 400]);
+            let (quantity, amount) = (self.random.between(1, most) as i64, self.random.pick(&[0, 0, 1, 9]));
+            let (delivering, receiving) = halves(self.scenario.directory(), from, to, security, quantity, amount);
+            let (form, day) = (self.random.pick(&FORMS), self.random.pick(&[days.first, days.last]));
+            let _ = self.scenario.send(form.settle(delivering, receiving, day));
         }
     }
 
