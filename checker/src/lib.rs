@@ -1,4 +1,4 @@
-//! Document 01, "Cross-CSD realignment and booking on T2S", with asks 1 to 5 of document 02, written from
+//! Document 01, "Cross-CSD realignment and booking on T2S", with asks 1 to 6 of document 02, written from
 //! their text alone. It is the oracle of the proved library and its peer in speed, and shares no line with it.
 //!
 //! The model: [`directory`] (the record), [`register`] (entries, soundness, look-ups), [`links`] (those of a

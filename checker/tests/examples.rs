@@ -579,7 +579,7 @@ mod taking_back {
     use checker::command::Command;
     use checker::proved::Proved;
 
-    /// The chain of a pair, that of the opposite one or its refusal, and the positions that are then not what they were.
+    /// The chain of a pair, that of the opposite one or its refusal, and the positions that are then others than before.
     type Both = (Vec<String>, Result<Vec<String>, u8>, Vec<String>);
 
     impl Example {

@@ -938,8 +938,8 @@ mod taking_back {
         }
     }
 
-    /// A change of the model's answer to the opposite pair and of the store that it left, given the pair booked last and
-    /// the store before.
+    /// A change of the model's answer to the opposite pair and of the store that it left, given the pair booked last
+    /// and the store before.
     type Mistake = fn(&Last, &Call, &Store, &mut Store, Answer) -> Answer;
 
     /// A desk that is wrong about the opposite of the pair booked last, and about nothing else.

@@ -379,8 +379,8 @@ impl Display for Coverage {
         for ((name, kind, length), times) in &self.chains {
             writeln!(formatter, "{name:30} {kind:?} of {length}: {times}")?;
         }
-        for ((way, came_of_it, form, payment), times) in &self.taken_back {
-            writeln!(formatter, "taken back, {way:?} {payment:?}, {form:?}: {came_of_it:?} {times}")?;
+        for ((way, way_back, form, payment), times) in &self.taken_back {
+            writeln!(formatter, "taken back, {way:?}, {way_back:?}, {form:?}, {payment:?}: {times}")?;
         }
         Ok(())
     }

@@ -92,8 +92,8 @@ pub enum ChainKind {
     BothOutside,
 }
 
-/// Ask 6's distinction: "chains of one step", "default chains" (where default walks meet, and the two ends that go
-/// together), "where just one of the two directed walks reaches", and "where both reach".
+/// What ask 6 tells apart: "chains of one step", "default chains" (cases 2 and 4 of the chain rule), "where just one of
+/// the two directed walks reaches", and "where both reach".
 #[derive(Clone, Copy, PartialEq, Eq, PartialOrd, Ord, Debug)]
 pub enum Way {
     OneStep,

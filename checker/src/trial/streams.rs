@@ -536,8 +536,8 @@ impl Writer<'_> {
     }
 
     /// Two CSDs whose default walks do not meet and that reach each other both ways: by an alternative from day 0, by
-    /// another to the last day, and by both on the days between. What is settled on the days of one alone comes to stand
-    /// on the omnibus accounts that its walk draws on.
+    /// another to the last day, and by both on the days between. What is settled on the days of one alone comes to
+    /// stand on the omnibus accounts that its walk draws on.
     fn both_ways(&mut self) {
         let security = self.scenario.security();
         let sides = [self.own_side(security), self.own_side(security)];

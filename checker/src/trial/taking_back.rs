@@ -31,8 +31,8 @@ pub enum WayBack {
     Refused(u8),
 }
 
-/// "Where both reach, the way back may be another chain": it is one, with mirrors where the first has omnibus accounts
-/// and the reverse. It may lack a row, or holdings on an omnibus account.
+/// "Where both reach, the way back may be another chain": the walk from the other end has mirrors where the first chain
+/// has omnibus accounts, so that it never restores. It may lack a row, or holdings on an omnibus account.
 const WHERE_BOTH_REACH: [WayBack; 3] = [WayBack::OtherChain, WayBack::Refused(18), WayBack::Refused(20)];
 
 /// "Amount 0 touches none."
@@ -86,8 +86,8 @@ impl<'a> BookedPair<'a> {
         form.settle(self.receiving, self.delivering, self.day)
     }
 
-    /// Settles the opposite pair by place, and with sides and either half first, each over a copy of the store that this
-    /// one left and a step list of its own.
+    /// Settles the opposite pair by place, and with sides and either half first, each over a copy of the store that
+    /// this one left and a step list of its own.
     pub fn take_back(
         &self,
         rows: &Rows,
@@ -137,8 +137,8 @@ impl<'a> BookedPair<'a> {
         })
     }
 
-    /// "Is accepted and restores every position and balance": by the same chain from its other end. The other steps lent
-    /// and the directory stay as they are.
+    /// "Is accepted and restores every position and balance": by the same chain from its other end. The other steps
+    /// lent and the directory stay as they are.
     fn restored(&self, lent: &[Step]) -> (Answer, Store) {
         let turned = |&Step { csd, debit, credit }: &Step| Step { csd, debit: credit, credit: debit };
         let chain: Vec<Step> = self.left.steps[..self.length].iter().rev().map(turned).collect();
