@@ -15,6 +15,7 @@ pub mod forms;
 pub mod implementation;
 pub mod linking;
 pub mod literal;
+pub mod opposite;
 pub mod pairing;
 pub mod random;
 pub mod refused;

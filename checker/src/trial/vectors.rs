@@ -1,10 +1,11 @@
 //! Inputs that are worth keeping: every refusal of every command, chains of every kind and length, sided halves
-//! in either order, branches, check digits, segregated holdings, links with days, the ends of the input's length, damaged
-//! streams, and large sums. The model's transcripts are their outputs.
+//! in either order, branches, check digits, segregated holdings, links with days, pairs taken back, the ends of the
+//! input's length, damaged streams, and large sums. The model's transcripts are their outputs.
 
 use super::busy;
 use super::dated;
 use super::forms::{Form, FORMS};
+use super::opposite;
 use super::refused;
 use super::scenario::{halves, Scenario};
 use super::segregated;
@@ -38,6 +39,7 @@ pub fn vectors() -> Vec<(&'static str, Vec<u8>)> {
         ("served-omnibus", segregated::served_omnibus()),
         ("link-periods", dated::periods()),
         ("links-in-time", dated::in_time()),
+        ("taken-back", opposite::taken_back()),
         ("link-cut-by-one", cut_or_unknown(&[0x05; 11])),
         ("bring-in-cut-by-one", cut_or_unknown(&[0x06; 13])),
         ("settle-cut-before-day", cut_or_unknown(&[0x0A; 41])),
