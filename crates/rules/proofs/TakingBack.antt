@@ -5,7 +5,7 @@ use mathlib.Core.Logic.{inl, inr}
 use mathlib.Core.List.{List, List·Memᴰ}
 use Prim.Native.Nat.{ℕ, _≤_, _<_}
 use native.Mathlib.Omega.{arith}
-use lib.IntN.{ℤ, pos, _+ℤ_, _-ℤ_}
+use lib.IntN.{pos, _+ℤ_, _-ℤ_}
 use lib.Signed.{_≤ℤ_}
 use lib.ListN.{length}
 use Rattle.rules.specs.Types.{Directory, Half, Step, Booked}
@@ -17,7 +17,7 @@ use Rattle.rules.specs.Refusals.{ParticipantOrOmnibus, Misfits, settlePo
 use Rattle.rules.specs.Demands.{Within, Agree, Allowed, Bookable, BookedPair}
 use Rattle.rules.specs.Requests.{WantedOf, fromTheOtherEnd, TakesBack, TakingBack}
 use Rattle.rules.proofs.Basics.{or-cases}
-use Rattle.rules.proofs.Int.{parts-+, up-pos, dn-pos, linear}
+use Rattle.rules.proofs.Int.{covers, out-in, in-out}
 use Rattle.rules.proofs.RowTests.{says-kind-is}
 use Rattle.rules.proofs.AmountRelation.{says-floored}
 use Rattle.rules.proofs.SideRelation.{delivers-is}
@@ -27,7 +27,7 @@ use Rattle.rules.proofs.Soundness.{sound-gives}
 use Rattle.rules.proofs.Turning.{turned-length, turned-each}
 use Rattle.rules.proofs.TurnedChain.{chain-turned}
 use Rattle.rules.proofs.Permissions.{within}
-use Rattle.rules.proofs.Restoring.{out-in, in-out, units-back, cents-back}
+use Rattle.rules.proofs.Restoring.{units-back, cents-back}
 use Rattle.rules.proofs.Settlements.{books}
 use Rattle.rules.proofs.Reached.{Reached, run-reached}
 
@@ -47,10 +47,6 @@ opposite-agree r h g A =
       amount = rw (A .sameAmount) at (A .amount);
       sameAmount = sym (A .sameAmount);
     }
-
--- what is not negative covers what it gains
-covers : (x : ℤ) (q : ℕ) → pos 0 ≤ℤ x → pos q ≤ℤ (x +ℤ pos q)
-covers x q h = omega (arith, linear, parts-+ x (pos q), up-pos q, dn-pos q, up-pos 0, dn-pos 0)
 
 floored-small : (r : Rows) → Facts r → (a : ℕ) → ParticipantOrOmnibus (r .accounts) a → a < accountLimit
 floored-small r F a f = elim (or-cases (isKind (r .accounts) a 0) (isKind (r .accounts) a 1) (says-floored (r .accounts) a .tests f)) [
