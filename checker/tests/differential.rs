@@ -59,22 +59,22 @@ fn one_stream<Subject: Implementation + Program>(
 }
 
 #[test]
-fn streams() {
+fn model_streams() {
     let count = setting("CHECKER_STREAMS").unwrap_or(20_000);
-    run("streams", &mut Model, one_stream, count, Coverage::of_streams);
+    run("model_streams", &mut Model, one_stream, count, Coverage::of_streams);
 }
 
 #[test]
-fn single_calls() {
+fn model_single_calls() {
     let count = setting("CHECKER_STORES").unwrap_or(12_000);
-    run("single_calls", &mut Model, differential::calls, count, Coverage::of_calls);
+    run("model_single_calls", &mut Model, differential::calls, count, Coverage::of_calls);
 }
 
 /// The links of other days are struck out, by the model.
 #[test]
-fn days() {
+fn model_days() {
     let count = setting("CHECKER_DAYS").unwrap_or(8_000);
-    run("days", &mut Model, differential::days, count, |_| Vec::new());
+    run("model_days", &mut Model, differential::days, count, |_| Vec::new());
 }
 
 /// The same by the proved library.
@@ -91,7 +91,7 @@ fn proved_single_calls() {
     run("proved_single_calls", &mut Proved::default(), differential::calls, count, Coverage::of_calls);
 }
 
-/// Streams as bytes, through the proved `run`. Coverage is that of the model on the same seeds (`streams`).
+/// Streams as bytes, through the proved `run`. Coverage is that of the model on the same seeds (`model_streams`).
 #[test]
 fn proved_streams() {
     let repeated = setting("CHECKER_SEED");
