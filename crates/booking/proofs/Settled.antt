@@ -20,7 +20,7 @@ use Rattle.chain.specs.declared.steps.Found.{Found}
 use Rattle.chain.specs.StepList.{stepNumbers, stepsIn, noted}
 use Rattle.chain.specs.Steps.{FoundIn}
 use Rattle.chain.specs.Derivation.{chainBetween, Finds, derivedInto}
-use Rattle.chain.specs.Halves.{Handed}
+use Rattle.halves.specs.Halves.{Handed}
 use Rattle.chain.proofs.StepList.{steps-none, steps-counted}
 use Rattle.chain.proofs.Linking.{found-refused, found-chained}
 use Rattle.rules.proofs.Conditions.{first-before, first-after}

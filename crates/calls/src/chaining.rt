@@ -2,10 +2,10 @@
 use crate::early_refusal;
 use booking::settling;
 use chain::derivation;
-use chain::halves::in_order;
 use chain::step_list::STEP_NUMBERS;
 use chain::step_list::count_of;
 use chain::step_list::step_at;
+use halves::in_order;
 use identifiers::names::NAMES;
 use index::places::INDEX;
 use rules::ACCOUNTS;
@@ -24,7 +24,7 @@ ghost use Rattle.rules.specs.Chain.{stepLimit};
 ghost use Rattle.rules.specs.Outcomes.{settlementOn, derivationOn, blanks, replyOf, byValue};
 ghost use Rattle.rules.specs.Calls.{Halves, ordered, sided, countOf};
 ghost use Rattle.chain.specs.StepList.{stepsIn};
-ghost use Rattle.chain.specs.Halves.{Handed, Halved};
+ghost use Rattle.halves.specs.Halves.{Handed, Halved};
 ghost use Rattle.calls.specs.Replies.{refusal};
 
 // ---- replies

@@ -1,22 +1,14 @@
 -- What is asked of no link is answered alike on every day.
 use Prim.Native.Nat.{ℕ}
 use mathlib.Core.Path.{_≡_, refl}
-use mathlib.Core.Bool.{Bool}
 use mathlib.Core.List.{List, [], _∷_}
-use Rattle.rules.specs.declared.Half.{Half}
-use Rattle.rules.specs.Tests.{firstOf}
 use Rattle.rules.specs.Chain.{climb, over}
-use Rattle.rules.specs.Calls.{bothConditions}
 use Rattle.index.specs.Asked.{askedBy, asked, askedOn}
 
 module _ (l : List ℕ) (day : ℕ) where
   pub home-on : (a : ℕ) → asked l .home a ≡ askedOn l day .home a
   unfolding askedBy
   home-on a = refl
-
-  pub halves-on : (h g : Half) (u s : Bool) → firstOf (bothConditions (asked l) h g u s) ≡ firstOf (bothConditions (askedOn l day) h g u s)
-  unfolding askedBy
-  halves-on h g u s = refl
 
   pub climb-on : (path : List ℕ) (a : ℕ) → climb (asked l) path a ≡ climb (askedOn l day) path a
   unfolding askedBy climb

@@ -18,8 +18,8 @@ use Rattle.rules.proofs.Basics.{quiet, impossible}
 use Rattle.rules.proofs.Conditions.{first-before, first-after}
 use Rattle.chain.specs.StepList.{stepNumbers, stepsIn, noted}
 use Rattle.chain.specs.Derivation.{chainInto, chainBetween, derivingConditions, Finds, Derived, derivedBy, derived, derivedInto, DerivedIn, Derives}
-use Rattle.chain.specs.Halves.{inOrder, Handed}
-use Rattle.chain.specs.declared.halves.InOrder.{InOrder}
+use Rattle.halves.specs.Halves.{inOrder, Handed}
+use Rattle.halves.specs.declared.InOrder.{InOrder}
 use Rattle.chain.specs.declared.steps.Found.{Found}
 use Rattle.chain.proofs.StepList.{steps-none, steps-counted, noted-none}
 use Rattle.chain.proofs.Linking.{found-refused, found-chained}

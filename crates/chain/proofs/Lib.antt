@@ -3,5 +3,4 @@ pub mod Climbing
 pub mod Days
 pub mod Putting
 pub mod Linking
-pub mod Ranges
 pub mod Deriving

@@ -1,4 +1,3 @@
-pub mod Halves
 pub mod StepList
 pub mod Steps
 pub mod Derivation

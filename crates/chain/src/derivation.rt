@@ -1,8 +1,8 @@
 // The chain between two accounts, and the derivation for two halves.
-use crate::halves::halves_refusal;
 use crate::step_list::STEP_NUMBERS;
 use crate::steps::Found;
 use crate::steps::steps_along;
+use halves::halves_refusal;
 use index::lookups::home_of;
 use index::places::INDEX;
 use rules::Answer;

@@ -3,8 +3,8 @@ use borrow.Author.Needs.{needs}
 use mathlib.Core.Path.{sym, _∙_}
 use Rattle.index.specs.Asked.{askedOn}
 use Rattle.chain.specs.StepList.{stepsIn}
-use Rattle.chain.proofs.Days.{halves-on}
-use Rattle.chain.proofs.Ranges.{halves-ranged}
+use Rattle.halves.proofs.Days.{halves-on}
+use Rattle.halves.proofs.Ranges.{halves-ranged}
 use Rattle.booking.proofs.Days.{book-on}
 use Rattle.booking.proofs.Settled.{by-length, by-halves, by-chain, by-booking, done, booking-open}
 use Rattle.booking.proofs.settling.settle.Statement.{statement}

@@ -2,7 +2,7 @@
 use mathlib.Core.Path.{sym, _∙_}
 use borrow.Author.Needs.{needs}
 use Rattle.index.specs.Asked.{askedOn}
-use Rattle.chain.proofs.Days.{halves-on}
+use Rattle.halves.proofs.Days.{halves-on}
 use Rattle.chain.proofs.Deriving.{derives-misfit, derives-halves, derives-refused, derives-chained}
 use Rattle.chain.proofs.derivation.derive.Statement.{statement}
 use Rattle.chain.proofs.derivation.derive.Tie as tie

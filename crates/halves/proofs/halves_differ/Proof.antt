@@ -1,7 +1,7 @@
 -- The five tests.
 use borrow.Author.Needs.{needs}
-use Rattle.chain.proofs.halves.halves_differ.Statement.{statement}
-use Rattle.chain.proofs.halves.halves_differ.Tie as tie
+use Rattle.halves.proofs.halves_differ.Statement.{statement}
+use Rattle.halves.proofs.halves_differ.Tie as tie
 
 in-books-requires : tie.Need-in-books-requires
 in-books-requires c κs = search needs

@@ -1,7 +1,7 @@
 -- By the side bytes alone.
 use borrow.Author.Needs.{needs}
-use Rattle.chain.proofs.halves.side_unknown.Statement.{statement}
-use Rattle.chain.proofs.halves.side_unknown.Tie as tie
+use Rattle.halves.proofs.side_unknown.Statement.{statement}
+use Rattle.halves.proofs.side_unknown.Tie as tie
 
 returns : tie.Need-returns
 returns c = search needs

@@ -1,7 +1,7 @@
 -- What each question to the two halves found.
 use borrow.Author.Needs.{needs}
-use Rattle.chain.proofs.halves.in_order.Statement.{statement}
-use Rattle.chain.proofs.halves.in_order.Tie as tie
+use Rattle.halves.proofs.in_order.Statement.{statement}
+use Rattle.halves.proofs.in_order.Tie as tie
 
 side-unknown-requires : tie.Need-side-unknown-requires
 side-unknown-requires c κs = search needs

@@ -2,8 +2,8 @@
 use mathlib.Core.Path.{sym, _∙_}
 use borrow.Author.Tests.{eq-eqb, ne-eqb}
 use borrow.Author.Needs.{needs}
-use Rattle.chain.proofs.halves.halves_refusal.Statement.{statement}
-use Rattle.chain.proofs.halves.halves_refusal.Tie as tie
+use Rattle.halves.proofs.halves_refusal.Statement.{statement}
+use Rattle.halves.proofs.halves_refusal.Tie as tie
 
 half-unknown-requires : tie.Need-half-unknown-requires
 half-unknown-requires c κs = search needs

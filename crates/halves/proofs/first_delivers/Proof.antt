@@ -1,7 +1,7 @@
 -- By the side bytes alone.
 use borrow.Author.Needs.{needs}
-use Rattle.chain.proofs.halves.first_delivers.Statement.{statement}
-use Rattle.chain.proofs.halves.first_delivers.Tie as tie
+use Rattle.halves.proofs.first_delivers.Statement.{statement}
+use Rattle.halves.proofs.first_delivers.Tie as tie
 
 returns : tie.Need-returns
 returns c = search needs

@@ -17,7 +17,7 @@ ghost use Rattle.rules.specs.Tests.{firstOf};
 ghost use Rattle.rules.specs.Calls.{sided, deliveringSide, delivering, receiving, sideUnknown, sameSide};
 ghost use Rattle.rules.specs.Calls.{halfUnknown, halfOutOfRange, halvesDiffer, bothConditions};
 ghost use Rattle.index.specs.Asked.{asked};
-ghost use Rattle.chain.specs.Halves.{inOrder};
+ghost use Rattle.halves.specs.Halves.{inOrder};
 
 // Two halves in order, and what is asked of their sides: whether one is unknown, and whether both are the same.
 pub struct InOrder {

@@ -1,7 +1,7 @@
 -- The three tests.
 use borrow.Author.Needs.{needs}
-use Rattle.chain.proofs.halves.half_unknown.Statement.{statement}
-use Rattle.chain.proofs.halves.half_unknown.Tie as tie
+use Rattle.halves.proofs.half_unknown.Statement.{statement}
+use Rattle.halves.proofs.half_unknown.Tie as tie
 
 is-account-requires : tie.Need-is-account-requires
 is-account-requires c κs = search needs

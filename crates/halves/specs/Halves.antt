@@ -3,7 +3,7 @@ use mathlib.Core.Path.{_≡_}
 use mathlib.Core.Bool.{Bool}
 use Rattle.rules.specs.declared.Half.{Half}
 use Rattle.rules.specs.Calls.{Halves, delivering, receiving, sideUnknown, sameSide}
-use Rattle.chain.specs.declared.halves.InOrder.{InOrder}
+use Rattle.halves.specs.declared.InOrder.{InOrder}
 
 -- the half that delivers, the one that receives, and what is asked of their sides
 abbrev pub inOrder : Halves → InOrder
