@@ -10,8 +10,9 @@ use Rattle.rules.specs.declared.Units.{Units}
 use Rattle.rules.specs.Tests.{any}
 use Rattle.rules.specs.Booking.{limit, beyond, position, place, addUnits, lessUnits, units, heldIn, moved, stepBeyond, unitsBeyond}
 use Rattle.rules.proofs.Basics.{or-none}
+use Rattle.holdings.proofs.Bounds.{Within, within-plus, within-fits}
 use Rattle.booking.specs.Room.{Room}
-use Rattle.booking.proofs.Bounds.{Within, within-two, within-plus, within-pos, within-neg, within-fits, within-added}
+use Rattle.booking.proofs.Bounds.{within-two, within-pos, within-neg, within-added}
 
 -- the two numbers that a step touches
 pub record Touch (m : ℕ) (p : List ℤ) (s : ℕ) (x : Step) : Type 0 where

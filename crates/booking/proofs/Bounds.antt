@@ -1,29 +1,16 @@
--- Numbers within a count of 10^15: what was judged before a call is within 2, and each change adds 1, so that no sum leaves 64 bits.
+-- What a call changes: as judged before it a number is within 2 times 10^15, and each change adds 1, so that no sum leaves 64 bits.
 use mathlib.Core.Path.{_≡_}
 use mathlib.Core.Bool.{false}
 use mathlib.Core.List.{List}
-use Prim.Native.Nat.{ℕ, _+_, _*_, _≤_, _<_}
+use Prim.Native.Nat.{ℕ, _+_, _≤_, _<_}
 use native.Mathlib.Omega.{arith}
 use native.Mathlib.Decide.{decLt, ℕ-discrete}
-use borrow.Author.Tests.{ltb-false}
 use lib.ListN.{length, getD, set}
 use lib.Seq.{getD-set-same, getD-set-other, set-out}
-use lib.IntN.{ℤ, pos, negℤ, natAbs, _+ℤ_}
-use mir.Syntax.{w64}
-use mir.Val.{SFits}
+use lib.IntN.{ℤ, pos, negℤ, _+ℤ_}
 use Rattle.rules.specs.Booking.{limit, beyond}
-use Rattle.amounts.proofs.Integers.{up, dn, add-law, neg-up, neg-dn, size, to-fits}
-
--- z is within ±n · 10^15
-pub record Within (n : ℕ) (z : ℤ) : Type 0 where
-  pub most : up z ≤ dn z + n * limit
-  pub least : dn z ≤ up z + n * limit
-
-pub within-one : (z : ℤ) → beyond z ≡ false → Within 1 z
-unfolding beyond
-within-one z e =
-    let h : natAbs z ≤ limit = ltb-false limit (natAbs z) e in
-    record { most = omega (arith, size z); least = omega (arith, size z) }
+use Rattle.amounts.proofs.Integers.{add-law, neg-up, neg-dn}
+use Rattle.holdings.proofs.Bounds.{Within, within-one, within-plus}
 
 pub within-pos : (q : ℕ) → q ≤ limit → Within 1 (pos q)
 within-pos q h = record { most = omega arith; least = omega arith }
@@ -31,14 +18,8 @@ within-pos q h = record { most = omega arith; least = omega arith }
 pub within-neg : (q : ℕ) → q ≤ limit → Within 1 (negℤ (pos q))
 within-neg q h = record { most = omega (arith, neg-up (pos q), neg-dn (pos q)); least = omega (arith, neg-up (pos q), neg-dn (pos q)) }
 
-pub within-plus : (m n : ℕ) (y z : ℤ) → Within m y → Within n z → Within (m + n) (y +ℤ z)
-within-plus m n y z h k = record { most = omega (arith, add-law y z); least = omega (arith, add-law y z) }
-
 within-more : (m n : ℕ) (z : ℤ) → Within m z → Within (m + n) z
 within-more m n z h = record { most = omega arith; least = omega arith }
-
-pub within-fits : (n : ℕ) (z : ℤ) → n ≤ 9000 → Within n z → SFits w64 z
-within-fits n z h w = to-fits z (omega arith) (omega arith)
 
 -- what a change within 10^15 leaves within 10^15 was within twice that
 pub within-two : (x z : ℤ) → Within 1 z → beyond (x +ℤ z) ≡ false → Within 2 x

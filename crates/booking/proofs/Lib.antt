@@ -2,7 +2,6 @@ pub mod Bounds
 pub mod Booked
 pub mod Listed
 pub mod Paid
-pub mod Summed
 pub mod Refused
 pub mod Settled
 pub mod Contras

@@ -14,9 +14,10 @@ use Rattle.rules.specs.Tests.{firstOf}
 use Rattle.rules.specs.Lookups.{Lookups}
 use Rattle.rules.specs.Booking.{Way, limit, balance, addCents, plusCents, cents, lessCents, cashOn, cashBeyond, payment, payConditions, paid, paymentBeyond}
 use Rattle.rules.proofs.Basics.{or-none}
+use Rattle.holdings.proofs.Bounds.{within-one, within-plus, within-fits}
 use Rattle.booking.specs.Moves.{wayOf}
 use Rattle.booking.specs.Payments.{payOutcome}
-use Rattle.booking.proofs.Bounds.{within-one, within-two, within-plus, within-pos, within-neg, within-fits, within-added}
+use Rattle.booking.proofs.Bounds.{within-two, within-pos, within-neg, within-added}
 
 -- one change that ends within ±10^15
 pub cash-fits : (c : List ℤ) (a : ℕ) (z : Cents) → cashBeyond c a z ≡ false → SFits w64 (plusCents (balance c a) z .0)

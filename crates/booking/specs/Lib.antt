@@ -2,5 +2,4 @@ pub mod Room
 pub mod Refusals
 pub mod Moves
 pub mod Payments
-pub mod Sums
 pub mod Settling

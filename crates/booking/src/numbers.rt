@@ -1,4 +1,4 @@
-// One signed number of a list: read, and changed.
+// A change of one signed number of a list.
 ghost use mathlib.Core.Path.{_≡_};
 ghost use mathlib.Core.Bool.{cond};
 ghost use Prim.Native.Nat.{_≤_};
@@ -7,16 +7,6 @@ ghost use lib.ListN.{getD, set};
 ghost use mir.Syntax.{w64};
 ghost use mir.Val.{SFits};
 ghost use Rattle.rules.specs.Booking.{limit};
-
-// The number at k, and 0 behind the end.
-pub(crate) fn read_at(list: &[i64], k: usize) -> i64
-    ensures { λ r. ⌜ r ≡ getD (now (list .entry)) k (pos 0) ⌝ }
-{
-    if k < list.len() {
-        return list[k];
-    }
-    0
-}
 
 // n as a change upwards or downwards.
 pub(crate) fn signed(n: u64, rises: bool) -> i64

@@ -1,12 +1,12 @@
 // Pay in and pay out: they change a participant account's cash.
 use crate::cash::add_cents;
-use crate::cash::cash_short;
-use crate::cash::payout_beyond;
-use crate::cash::receipt_beyond;
 use crate::numbers::signed;
 use crate::refusals::book_refusal;
 use crate::refusals::call_refusal;
 use crate::refusals::out_of_range;
+use holdings::cash::cash_short;
+use holdings::cash::payout_beyond;
+use holdings::cash::receipt_beyond;
 use index::lookups::is_account;
 use index::lookups::is_kind;
 use index::places::INDEX;

@@ -1,14 +1,14 @@
 // Settlement of two halves: the steps of their chain are booked, and "receiving cash pays delivering cash".
-use crate::cash::cash_short;
 use crate::cash::pay;
-use crate::cash::payment_beyond;
-use crate::judging::judge_steps;
 use crate::positions::move_units;
 use crate::refusals::book_refusal;
 use chain::derivation::chain_of;
 use chain::step_list::STEP_NUMBERS;
 use chain::step_list::step_at;
 use halves::halves_refusal;
+use holdings::cash::cash_short;
+use holdings::cash::payment_beyond;
+use holdings::judging::judge_steps;
 use index::places::INDEX;
 use rules::Answer;
 use rules::Half;

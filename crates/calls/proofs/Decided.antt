@@ -41,7 +41,7 @@ use Rattle.rules.specs.Outcomes.{holding, movementOn, paymentOn, settlementOn, 
 use Rattle.calls.specs.Early.{early, Admits}
 use Rattle.calls.proofs.Before.{first-early, first-later, early-refused, early-passed}
 use Rattle.calls.proofs.Few.{derives, settles, core-few}
-use Rattle.booking.specs.Sums.{securityTotal, cashTotal}
+use Rattle.holdings.specs.Sums.{securityTotal, cashTotal}
 use Rattle.calls.specs.Replies.{refusal}
 
 abbrev answerOf : Outcome → Answer

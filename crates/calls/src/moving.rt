@@ -2,7 +2,7 @@
 use crate::early_refusal;
 use booking::moves::move_securities;
 use booking::payments::move_cash;
-use booking::totals;
+use holdings::totals;
 use identifiers::names::NAMES;
 use index::places::INDEX;
 use rules::ACCOUNTS;

@@ -31,7 +31,7 @@ use Rattle.identifiers.proofs.Identified.{isin-shown}
 use Rattle.stream.specs.Obeyed.{Held, Holds}
 use Rattle.stream.specs.Ending.{unitsIn, centsIn, totalIn, totalsIn, securitiesIn, endingIn, Totalled}
 use Rattle.stream.proofs.Keeping.{Bounded}
-use Rattle.booking.specs.Sums.{securityTotal, cashTotal}
+use Rattle.holdings.specs.Sums.{securityTotal, cashTotal}
 
 -- ---- the lines of a directory's securities
 

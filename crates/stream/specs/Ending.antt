@@ -19,7 +19,7 @@ use Rattle.index.specs.Index.{securityCount}
 use Rattle.index.specs.Asked.{read, asked}
 use Rattle.identifiers.specs.Names.{isinOf}
 use Rattle.refusals.specs.Kept.{Kept}
-use Rattle.booking.specs.Sums.{securityTotal, cashTotal}
+use Rattle.holdings.specs.Sums.{securityTotal, cashTotal}
 
 -- ---- by what is held
 

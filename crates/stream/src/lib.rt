@@ -1,8 +1,8 @@
 // A whole command stream into its whole text, as document 01's "Commands and program" has it. A stream's store starts empty and is changed by calls
 // alone, so that its directory is sound, and no number of it is beyond ±10^15. Of the directory its index and its identifiers are kept.
-use booking::totals::cash_total;
-use booking::totals::security_total;
 use chain::step_list::STEP_NUMBERS;
+use holdings::totals::cash_total;
+use holdings::totals::security_total;
 use identifiers::names::NAMES;
 use identifiers::names::isin_of;
 use index::places::INDEX;
@@ -26,7 +26,7 @@ ghost use Rattle.text.specs.Appended.{Appended};
 ghost use Rattle.stream.specs.Obeyed.{keptIn};
 ghost use Rattle.stream.specs.Ending.{unitsIn, centsIn, totalsIn, securitiesIn, endingIn};
 ghost use Rattle.rules.specs.Stream.{Printed};
-ghost use Rattle.booking.specs.Sums.{securityTotal, cashTotal};
+ghost use Rattle.holdings.specs.Sums.{securityTotal, cashTotal};
 
 pub mod commands; // commands.rt: one command's operands decoded, and its call made
 pub mod turns; // turns.rt: the command at a place, and its lines
