@@ -5,10 +5,7 @@ use amounts::less_beyond;
 use amounts::more_beyond;
 use rules::Cents;
 ghost use mathlib.Core.Path.{_≡_};
-ghost use lib.IntN.{_+ℤ_};
-ghost use mir.Syntax.{w64};
-ghost use mir.Val.{SFits};
-ghost use Rattle.rules.specs.Booking.{balance, cents, lessCents, plusCents, cashShort, cashBeyond, paymentBeyond};
+ghost use Rattle.rules.specs.Booking.{balance, cents, lessCents, cashShort, cashBeyond, paymentBeyond};
 
 // The balance of the account.
 pub(crate) fn balance_of(cash: &[i64], account: u16) -> Cents
@@ -49,12 +46,4 @@ pub fn payment_beyond(cash: &[i64], payer: u16, payee: u16, amount: u64) -> bool
     let low = payout_beyond(cash, payer, amount);
     let high = receipt_beyond(cash, payee, amount);
     (amount != 0) & (low | high)
-}
-
-// Cents and cents together.
-pub(crate) fn plus_cents(x: Cents, z: Cents) -> Cents
-    requires { ⌜ SFits w64 (x .0 +ℤ z .0) ⌝ }
-    ensures { λ r. ⌜ r ≡ plusCents x z ⌝ }
-{
-    Cents(x.0 + z.0)
 }

@@ -1,7 +1,5 @@
 // Totals: whole sums, refused 22 where a number that they add up is beyond ±10^15.
 use crate::cash::balance_of;
-use crate::cash::plus_cents;
-use crate::positions::plus_units;
 use crate::positions::position_of;
 use amounts::is_beyond;
 use index::lookups::is_kind;
@@ -14,12 +12,32 @@ use rules::PARTICIPANT;
 use rules::SecurityTotal;
 use rules::Units;
 ghost use mathlib.Core.Path.{_≡_};
+ghost use lib.IntN.{_+ℤ_};
+ghost use mir.Syntax.{w64};
+ghost use mir.Val.{SFits};
+ghost use Rattle.rules.specs.Booking.{plusUnits, plusCents};
 ghost use Rattle.index.specs.Asked.{asked};
 ghost use Rattle.holdings.specs.Sums;
 ghost use Rattle.holdings.specs.Sums.{participantTotal, securityTotal, cashTotal};
 
 // The number behind that of the last account.
 const ALL: u16 = ACCOUNTS as u16;
+
+// Units and units together.
+fn plus_units(x: Units, z: Units) -> Units
+    requires { ⌜ SFits w64 (x .0 +ℤ z .0) ⌝ }
+    ensures { λ r. ⌜ r ≡ plusUnits x z ⌝ }
+{
+    Units(x.0 + z.0)
+}
+
+// Cents and cents together.
+fn plus_cents(x: Cents, z: Cents) -> Cents
+    requires { ⌜ SFits w64 (x .0 +ℤ z .0) ⌝ }
+    ensures { λ r. ⌜ r ≡ plusCents x z ⌝ }
+{
+    Cents(x.0 + z.0)
+}
 
 // The sum of all balances.
 pub fn cash_total(cash: &[i64]) -> CashTotal
