@@ -1,12 +1,13 @@
 -- Bytes read with 0 for those that are not there: one byte more; and where all are there, they are the rules' bytes.
-use mathlib.Core.Path.{_≡_, refl, sym}
-use Prim.Native.Nat.{ℕ, zero, suc, _+_, _≤_, _<_}
+use mathlib.Core.Path.{_≡_, refl, sym, _∙_, ap}
+use Prim.Native.Nat.{ℕ, zero, suc, _+_, _*_, _≤_, _<_}
 use native.Mathlib.Numerals.{add-one}
+use native.Mathlib.Decide.{decLt}
 use native.Mathlib.Omega.{arith}
-use mathlib.Core.List.{List}
-use lib.ListN.{length, getD, take, drop, set, length-drop}
-use lib.Seq.{take-suc, take-suc-set, getD-drop}
-use Rattle.rules.specs.Stream.{bytesAt}
+use mathlib.Core.List.{List, [], _∷_, _++_}
+use lib.ListN.{length, getD, take, drop, set, length-drop, length-append, List·getD-append}
+use lib.Seq.{take-suc, take-suc-set, getD-drop, getD-append-seam}
+use Rattle.rules.specs.Stream.{bytesAt, numberAt}
 use Rattle.wire.specs.Operands.{paddedAt}
 
 -- one byte more
@@ -20,3 +21,34 @@ unfolding paddedAt
 padded-is o at zero h = refl
 padded-is o at (suc w) h =
     rw (padded-is o at w (omega arith), ← getD-drop at o w 0) (sym (take-suc (drop at o) w 0 (omega (arith, length-drop at o))))
+
+-- how many they are
+long : (o : List ℕ) (at w : ℕ) → length (paddedAt o at w) ≡ w
+unfolding paddedAt
+long o at zero = refl
+long o at (suc w) = omega (arith, length-append (paddedAt o at w) (getD o (at + w) 0 ∷ []), long o at w)
+
+-- a byte of them
+byte-of : (o : List ℕ) (at w k : ℕ) → k < w → getD (paddedAt o at w) k 0 ≡ getD o (at + k) 0
+unfolding paddedAt
+byte-of o at zero k h = absurd (omega arith)
+byte-of o at (suc w) k h = go (byte-of o at w k) (decLt k w)
+  where
+    go : (k < w → getD (paddedAt o at w) k 0 ≡ getD o (at + k) 0) → Dec (k < w)
+        → getD (paddedAt o at w ++ (getD o (at + w) 0 ∷ [])) k 0 ≡ getD o (at + k) 0
+    go before (yes i) = List·getD-append (paddedAt o at w) (getD o (at + w) 0 ∷ []) 0 k (omega (arith, long o at w)) ∙ before i
+    go before (no i) =
+        let e : w ≡ k = omega arith in
+        let m : k ≡ length (paddedAt o at w) = omega (arith, long o at w) in
+        ap (λ (j : ℕ). getD (paddedAt o at w ++ (getD o (at + w) 0 ∷ [])) j 0) m
+        ∙ getD-append-seam (paddedAt o at w) (getD o (at + w) 0) [] 0
+        ∙ ap (λ (j : ℕ). getD o (at + j) 0) e
+
+-- the number of them
+pub number-of : (o : List ℕ) (at w i : ℕ) → i ≤ w → numberAt (paddedAt o at w) 0 i ≡ numberAt o at i
+unfolding numberAt
+number-of o at w zero h = refl
+number-of o at w (suc i) h =
+    let e : 0 + i ≡ i = omega arith in
+    ap (λ (x : ℕ). x * 256 + getD (paddedAt o at w) (0 + i) 0) (number-of o at w i (omega arith))
+    ∙ ap (λ (x : ℕ). numberAt o at i * 256 + x) (ap (λ (k : ℕ). getD (paddedAt o at w) k 0) e ∙ byte-of o at w i (omega arith))

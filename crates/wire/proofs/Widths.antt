@@ -3,10 +3,13 @@ use mathlib.Core.Path.{_≡_, refl, _∙_}
 use mathlib.Core.Logic.{_≢_}
 use Prim.Native.Nat.{ℕ, zero, suc, _-_, _≤_, _<_}
 use native.Mathlib.Omega.{arith}
+use mathlib.Core.Bool.{Bool, true, _&&_}
 use mathlib.Core.List.{List, [], _∷_}
+use lib.Dec.{ltb}
 use mathlib.Core.Option.{none, some}
 use lib.ListN.{length, getD, getElem?}
-use borrow.Author.Tests.{ne-eqb}
+use borrow.Author.Tests.{ne-eqb, ltb-true}
+use Rattle.rules.proofs.Basics.{and-both}
 use Rattle.rules.specs.Stream.{widths, formerTag, widthOf}
 
 entry-at : (xs : List ℕ) (n : ℕ) → n < length xs → getElem? xs n ≡ some (getD xs n 0)
@@ -18,6 +21,19 @@ no-entry : (xs : List ℕ) (n : ℕ) → length xs ≤ n → getElem? xs n ≡ n
 no-entry [] n h = refl
 no-entry (x ∷ xs) zero h = absurd (omega arith)
 no-entry (x ∷ xs) (suc n) h = no-entry xs n (omega arith)
+
+-- every entry is a byte
+abbrev bytes-all : List ℕ → Bool
+bytes-all [] = true
+bytes-all (x ∷ xs) = ltb x 256 && bytes-all xs
+
+byte-in : (xs : List ℕ) (n : ℕ) → bytes-all xs ≡ true → getD xs n 0 < 256
+byte-in [] n e = omega arith
+byte-in (x ∷ xs) zero e = ltb-true x 256 (and-both (ltb x 256) (bytes-all xs) e .0)
+byte-in (x ∷ xs) (suc n) e = byte-in xs n (and-both (ltb x 256) (bytes-all xs) e .1)
+
+pub width-small : (n : ℕ) → getD widths n 0 < 256
+width-small n = byte-in widths n refl
 
 module _ (tag : ℕ) (h : tag ≢ 0) (f : tag ≢ formerTag) where
   one-less : widthOf tag ≡ getElem? widths (tag - 1)

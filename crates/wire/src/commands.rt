@@ -20,7 +20,7 @@ pub enum Next {
 
 const COMMANDS: usize = 14;
 
-const WIDTHS: [usize; COMMANDS] = [12, 12, 2, 0, 11, 13, 13, 10, 10, 42, 42, 44, 44, 8];
+const WIDTHS: [u8; COMMANDS] = [12, 12, 2, 0, 11, 13, 13, 10, 10, 42, 42, 44, 44, 8];
 
 // "Command 0E enters the longer row", a pair; "04 becomes an unknown byte", whose width is not read.
 pub const ENTER_PAIR: u8 = 14;
@@ -39,7 +39,7 @@ pub fn width_of(tag: u8) -> Width
     }
     let i = (tag - 1) as usize;
     if i < COMMANDS {
-        Width::Bytes(WIDTHS[i])
+        Width::Bytes(WIDTHS[i] as usize)
     } else {
         Width::NoCommand
     }

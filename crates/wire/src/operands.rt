@@ -10,7 +10,7 @@ use rules::Pair;
 use rules::Security;
 use rules::SidedHalf;
 ghost use mathlib.Core.Path.{_≡_};
-ghost use Prim.Native.Nat.{_+_, _^_, _≤_, _<_};
+ghost use Prim.Native.Nat.{_+_, _*_, _^_, _≤_, _<_};
 ghost use lib.ListN.{length, getD};
 ghost use Rattle.rules.specs.Entries.{accountRow, pairRow, linkRow};
 ghost use Rattle.rules.specs.Stream.{numberAt, accountAt, pairAt, linkAt, halfWidth, halfAt, sidedHalfAt, orderedDayAt, sidedDayAt};
@@ -30,7 +30,11 @@ pub struct Payment {
     pub amount: u64,
 }
 
-// Bytes of a half, and of one with its side.
+// Bytes of a movement, of a payment, of a half, and of a half with its side.
+const MOVE: usize = 13;
+
+const PAYMENT: usize = 10;
+
 const HALF: usize = 20;
 
 const SIDED_HALF: usize = HALF + 1;
@@ -41,73 +45,37 @@ fn byte_at(operands: &[u8], at: usize) -> u8
     if at < operands.len() { operands[at] } else { 0 }
 }
 
-fn wide(x: u8) -> u64
-    ensures { λ r. ⌜ r ≡ x ⌝ }
+// A byte more behind a number.
+fn joined(number: u64, byte: u8) -> u64
+    requires { ⌜ number < 256 ^ 7 ⌝ }
+    ensures value { λ r. ⌜ r ≡ number * 256 + byte ⌝ }
+    ensures below { λ r. ⌜ r < number * 256 + 256 ⌝ }
 {
-    x as u64
+    number * 256 + (byte as u64)
 }
 
-// The number of the `width` bytes from index `at` on, all of which the part has.
-fn whole_at(operands: &[u8], at: usize, width: usize) -> u64
-    requires { ⌜ (width ≤ 8) × (at + width ≤ length (now operands)) ⌝ }
-    ensures value { λ r. ⌜ r ≡ numberAt (now (operands .entry)) at width ⌝ }
-    ensures below { λ r. ⌜ r < 256 ^ width ⌝ }
-{
-    let mut number: u64 = 0;
-    let mut i: usize = 0;
-    while i < width {
-        number = number * 256 + wide(operands[at + i]);
-        i += 1;
-    }
-    number
-}
-
-// The same where the part may lack some of them.
-fn padded_at(operands: &[u8], at: usize, width: usize) -> u64
-    requires { ⌜ (width ≤ 8) × (at < 256) ⌝ }
-    ensures value { λ r. ⌜ r ≡ numberAt (now (operands .entry)) at width ⌝ }
-    ensures below { λ r. ⌜ r < 256 ^ width ⌝ }
-{
-    let mut number: u64 = 0;
-    let mut i: usize = 0;
-    while i < width {
-        number = number * 256 + wide(byte_at(operands, at + i));
-        i += 1;
-    }
-    number
-}
-
-// The number of the `width` bytes from index `at` on.
-fn number_at(operands: &[u8], at: usize, width: usize) -> u64
-    requires { ⌜ (width ≤ 8) × (at < 256) ⌝ }
-    ensures value { λ r. ⌜ r ≡ numberAt (now (operands .entry)) at width ⌝ }
-    ensures below { λ r. ⌜ r < 256 ^ width ⌝ }
-{
-    if at + width <= operands.len() {
-        return whole_at(operands, at, width);
-    }
-    padded_at(operands, at, width)
-}
-
-fn one_byte(operands: &[u8], at: usize) -> u8
-    requires { ⌜ at < 256 ⌝ }
-    ensures { λ r. ⌜ r ≡ numberAt (now (operands .entry)) at 1 ⌝ }
-{
-    number_at(operands, at, 1) as u8
-}
-
-fn two_bytes(operands: &[u8], at: usize) -> u16
-    requires { ⌜ at < 256 ⌝ }
+// The number of the 2 bytes from index `at` on, both of which the part has.
+fn whole_two(operands: &[u8], at: usize) -> u16
+    requires { ⌜ at + 2 ≤ length (now operands) ⌝ }
     ensures { λ r. ⌜ r ≡ numberAt (now (operands .entry)) at 2 ⌝ }
 {
-    number_at(operands, at, 2) as u16
+    let one = joined(0, operands[at]);
+    joined(one, operands[at + 1]) as u16
 }
 
-fn eight_bytes(operands: &[u8], at: usize) -> u64
-    requires { ⌜ at < 256 ⌝ }
+// The number of the 8 bytes from index `at` on, all of which the part has. Written out, so that it is one read.
+fn whole_eight(operands: &[u8], at: usize) -> u64
+    requires { ⌜ at + 8 ≤ length (now operands) ⌝ }
     ensures { λ r. ⌜ r ≡ numberAt (now (operands .entry)) at 8 ⌝ }
 {
-    number_at(operands, at, 8)
+    let one = joined(0, operands[at]);
+    let two = joined(one, operands[at + 1]);
+    let three = joined(two, operands[at + 2]);
+    let four = joined(three, operands[at + 3]);
+    let five = joined(four, operands[at + 4]);
+    let six = joined(five, operands[at + 5]);
+    let seven = joined(six, operands[at + 6]);
+    joined(seven, operands[at + 7])
 }
 
 // The bytes from index `at` on, as many as `into` takes.
@@ -120,6 +88,34 @@ fn copy_bytes(operands: &[u8], at: usize, into: &mut [u8])
         into[i] = byte_at(operands, at + i);
         i += 1;
     }
+}
+
+fn one_byte(operands: &[u8], at: usize) -> u8
+    ensures { λ r. ⌜ r ≡ numberAt (now (operands .entry)) at 1 ⌝ }
+{
+    byte_at(operands, at)
+}
+
+fn two_bytes(operands: &[u8], at: usize) -> u16
+    requires { ⌜ at < 256 ⌝ }
+    ensures { λ r. ⌜ r ≡ numberAt (now (operands .entry)) at 2 ⌝ }
+{
+    if at + 2 <= operands.len() {
+        return whole_two(operands, at);
+    }
+    let mut padded = [0u8; 2];
+    copy_bytes(operands, at, &mut padded);
+    whole_two(&padded, 0)
+}
+
+// The number of 8 bytes, where the part may lack some of them.
+fn eight_bytes(operands: &[u8], at: usize) -> u64
+    requires { ⌜ at < 256 ⌝ }
+    ensures { λ r. ⌜ r ≡ numberAt (now (operands .entry)) at 8 ⌝ }
+{
+    let mut padded = [0u8; 8];
+    copy_bytes(operands, at, &mut padded);
+    whole_eight(&padded, 0)
 }
 
 // "01 type 1, BIC 11"
@@ -192,8 +188,8 @@ pub fn decode_link(operands: &[u8]) -> Link
     }
 }
 
-// "06 in, 07 out: account 2, security 1, quantity 8"; they "carry a day as their last 2 bytes"
-pub fn decode_move(operands: &[u8]) -> Move
+// A movement of which the part may lack some bytes.
+fn short_move(operands: &[u8]) -> Move
     ensures { λ r. ⌜ r ≡ moveIn (now (operands .entry)) ⌝ }
 {
     let account = two_bytes(operands, 0);
@@ -208,8 +204,35 @@ pub fn decode_move(operands: &[u8]) -> Move
     }
 }
 
-// "08 in, 09 out: account 2, amount 8"
-pub fn decode_payment(operands: &[u8]) -> Payment
+// A movement that the part has whole.
+fn whole_move(operands: &[u8]) -> Move
+    requires { ⌜ 13 ≤ length (now operands) ⌝ }
+    ensures { λ r. ⌜ r ≡ moveIn (now (operands .entry)) ⌝ }
+{
+    let account = whole_two(operands, 0);
+    let security = one_byte(operands, 2);
+    let quantity = whole_eight(operands, 3);
+    let day = whole_two(operands, 11);
+    Move {
+        account,
+        security,
+        quantity,
+        day,
+    }
+}
+
+// "06 in, 07 out: account 2, security 1, quantity 8"; they "carry a day as their last 2 bytes"
+pub fn decode_move(operands: &[u8]) -> Move
+    ensures { λ r. ⌜ r ≡ moveIn (now (operands .entry)) ⌝ }
+{
+    if MOVE <= operands.len() {
+        return whole_move(operands);
+    }
+    short_move(operands)
+}
+
+// A payment of which the part may lack some bytes.
+fn short_payment(operands: &[u8]) -> Payment
     ensures { λ r. ⌜ r ≡ paymentIn (now (operands .entry)) ⌝ }
 {
     let account = two_bytes(operands, 0);
@@ -217,8 +240,28 @@ pub fn decode_payment(operands: &[u8]) -> Payment
     Payment { account, amount }
 }
 
-// "each account 2, counterpart CSD 1, security 1, quantity 8, amount 8"
-fn half_at(operands: &[u8], at: usize) -> Half
+// A payment that the part has whole.
+fn whole_payment(operands: &[u8]) -> Payment
+    requires { ⌜ 10 ≤ length (now operands) ⌝ }
+    ensures { λ r. ⌜ r ≡ paymentIn (now (operands .entry)) ⌝ }
+{
+    let account = whole_two(operands, 0);
+    let amount = whole_eight(operands, 2);
+    Payment { account, amount }
+}
+
+// "08 in, 09 out: account 2, amount 8"
+pub fn decode_payment(operands: &[u8]) -> Payment
+    ensures { λ r. ⌜ r ≡ paymentIn (now (operands .entry)) ⌝ }
+{
+    if PAYMENT <= operands.len() {
+        return whole_payment(operands);
+    }
+    short_payment(operands)
+}
+
+// A half of which the part may lack some bytes.
+fn short_half(operands: &[u8], at: usize) -> Half
     requires { ⌜ at < 64 ⌝ }
     ensures { λ r. ⌜ r ≡ halfAt (now (operands .entry)) at ⌝ }
 {
@@ -234,6 +277,36 @@ fn half_at(operands: &[u8], at: usize) -> Half
         quantity,
         amount,
     }
+}
+
+// A half that the part has whole.
+fn whole_half(operands: &[u8], at: usize) -> Half
+    requires { ⌜ at + halfWidth ≤ length (now operands) ⌝ }
+    ensures { λ r. ⌜ r ≡ halfAt (now (operands .entry)) at ⌝ }
+{
+    let account = whole_two(operands, at);
+    let counterpart = one_byte(operands, at + 2);
+    let security = one_byte(operands, at + 3);
+    let quantity = whole_eight(operands, at + 4);
+    let amount = whole_eight(operands, at + 12);
+    Half {
+        account,
+        counterpart,
+        security,
+        quantity,
+        amount,
+    }
+}
+
+// "each account 2, counterpart CSD 1, security 1, quantity 8, amount 8"
+fn half_at(operands: &[u8], at: usize) -> Half
+    requires { ⌜ at < 64 ⌝ }
+    ensures { λ r. ⌜ r ≡ halfAt (now (operands .entry)) at ⌝ }
+{
+    if at + HALF <= operands.len() {
+        return whole_half(operands, at);
+    }
+    short_half(operands, at)
 }
 
 // "one byte before each half"

@@ -1,7 +1,7 @@
--- `wire::operands::half_at` meets its contract: each field by its own read. Assumes nothing.
+-- `wire::operands::short_half` meets its contract: each field by its own read. Assumes nothing.
 use borrow.Author.Needs.{needs}
-use Rattle.wire.proofs.operands.half_at.Statement.{statement}
-use Rattle.wire.proofs.operands.half_at.Tie as tie
+use Rattle.wire.proofs.operands.short_half.Statement.{statement}
+use Rattle.wire.proofs.operands.short_half.Tie as tie
 
 two-bytes-requires : tie.Need-two-bytes-requires
 two-bytes-requires c κs = search needs
@@ -33,8 +33,8 @@ eight-bytes-requires-2 c κs = search needs
 returns : tie.Need-returns
 returns c = rw (c .before .before .before .before .two-bytes .ensures, c .before .before .before .one-byte .ensures, c .before .before .one-byte2 .ensures, c .before .eight-bytes .ensures, c .eight-bytes2 .ensures)
 
-pub half-at-spec : {M : Type 1} → statement M
-half-at-spec =
+pub short-half-spec : {M : Type 1} → statement M
+short-half-spec =
     tie.close
     (tie.spec
     two-bytes-requires

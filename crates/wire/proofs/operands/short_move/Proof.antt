@@ -1,7 +1,7 @@
--- `wire::operands::decode_move` meets its contract: each field by its own read. Assumes nothing.
+-- `wire::operands::short_move` meets its contract: each field by its own read. Assumes nothing.
 use borrow.Author.Needs.{needs}
-use Rattle.wire.proofs.operands.decode_move.Statement.{statement}
-use Rattle.wire.proofs.operands.decode_move.Tie as tie
+use Rattle.wire.proofs.operands.short_move.Statement.{statement}
+use Rattle.wire.proofs.operands.short_move.Tie as tie
 
 two-bytes-requires : tie.Need-two-bytes-requires
 two-bytes-requires c κs = search needs
@@ -18,6 +18,6 @@ two-bytes-requires-2 c κs = search needs
 returns : tie.Need-returns
 returns c = rw (c .before .before .before .two-bytes .ensures, c .before .before .one-byte .ensures, c .before .eight-bytes .ensures, c .two-bytes2 .ensures)
 
-pub decode-move-spec : {M : Type 1} → statement M
-decode-move-spec =
+pub short-move-spec : {M : Type 1} → statement M
+short-move-spec =
     tie.close (tie.spec two-bytes-requires one-byte-requires eight-bytes-requires two-bytes-requires-2 returns)
