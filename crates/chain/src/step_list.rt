@@ -3,11 +3,27 @@ use rules::Answer;
 use rules::STEPS;
 use rules::Step;
 ghost use mathlib.Core.Path.{_≡_};
+ghost use Prim.Native.Nat.{_<_};
+ghost use lib.ListN.{length};
+ghost use Rattle.rules.specs.Chain.{stepLimit};
 ghost use Rattle.rules.specs.Calls.{countOf};
-ghost use Rattle.chain.specs.StepList.{stepAt, withStep};
+ghost use Rattle.chain.specs.StepList.{stepNumbers, stepAt, withStep};
 
 // How many numbers hold the steps of any chain.
 pub const STEP_NUMBERS: usize = 3 * STEPS;
+
+// Step i of a list that has one.
+pub(crate) fn step_in(steps: &[u16], i: usize) -> Step
+    requires { ⌜ (length (now steps) ≡ stepNumbers) × (i < stepLimit) ⌝ }
+    ensures { λ r. ⌜ r ≡ stepAt (now (steps .entry)) i ⌝ }
+{
+    let at = 3 * i;
+    Step {
+        csd: (steps[at] % 256) as u8,
+        debited: steps[at + 1],
+        credited: steps[at + 2],
+    }
+}
 
 // Step i of the list; where the list has another length, or i is beyond the longest chain, 0 in each place.
 pub fn step_at(steps: &[u16], i: usize) -> Step
@@ -15,12 +31,7 @@ pub fn step_at(steps: &[u16], i: usize) -> Step
 {
     if steps.len() == STEP_NUMBERS {
         if i < STEPS {
-            let at = 3 * i;
-            return Step {
-                csd: (steps[at] % 256) as u8,
-                debited: steps[at + 1],
-                credited: steps[at + 2],
-            };
+            return step_in(steps, i);
         }
     }
     Step {
@@ -30,18 +41,15 @@ pub fn step_at(steps: &[u16], i: usize) -> Step
     }
 }
 
-// The step put behind the first n steps; nothing is put into a list of another length, or behind the longest chain.
-pub fn put_step(steps: &mut [u16], n: usize, step: Step)
+// The step put behind the first n steps of a list that can hold it.
+pub(crate) fn put_step(steps: &mut [u16], n: usize, step: Step)
+    requires { ⌜ (length (now steps) ≡ stepNumbers) × (n < stepLimit) ⌝ }
     ensures { λ _. ⌜ now (steps .exit) ≡ withStep (now (steps .entry)) n step ⌝ }
 {
-    if steps.len() == STEP_NUMBERS {
-        if n < STEPS {
-            let at = 3 * n;
-            steps[at] = step.csd as u16;
-            steps[at + 1] = step.debited;
-            steps[at + 2] = step.credited;
-        }
-    }
+    let at = 3 * n;
+    steps[at] = step.csd as u16;
+    steps[at + 1] = step.debited;
+    steps[at + 2] = step.credited;
 }
 
 // How many steps an answer counts: K of a booked or derived chain.

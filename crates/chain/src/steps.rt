@@ -2,7 +2,7 @@
 // delivering side, what stands between the sides, and the receiving side turned round put into the lent list.
 use crate::step_list::STEP_NUMBERS;
 use crate::step_list::put_step;
-use crate::step_list::step_at;
+use crate::step_list::step_in;
 use index::links::issuance_of;
 use index::lookups::PairFound;
 use index::lookups::pair_of;
@@ -89,12 +89,12 @@ fn climb_side(
 
 // The first `count` steps of the delivering side, put at the front of the list.
 fn put_side(steps: &mut [u16], side: &[u16; STEP_NUMBERS], count: usize)
-    requires { ⌜ count < sideLimit ⌝ }
+    requires { ⌜ (length (now steps) ≡ stepNumbers) × (length (now side) ≡ stepNumbers) × (count < sideLimit) ⌝ }
     ensures { λ _. ⌜ Adds (now (steps .entry)) 0 (stepsIn (now (side .entry)) count) (now (steps .exit)) count ⌝ }
 {
     let mut i: usize = 0;
     while i < count {
-        put_step(steps, i, step_at(side, i));
+        put_step(steps, i, step_in(side, i));
         i += 1;
     }
 }
@@ -112,10 +112,11 @@ fn add_top(
     count: usize,
     day: u16,
 ) -> usize
-    requires { ⌜ count < sideLimit ⌝ }
+    requires { ⌜ (length (now steps) ≡ stepNumbers) × (count < sideLimit) ⌝ }
     ensures { λ r. ⌜ Adds (now (steps .entry)) count
         (topSteps (askedOn (now (index .entry)) day) security join from to debited credited) (now (steps .exit)) r ⌝ }
     ensures { λ r. ⌜ r ≤ sideLimit + 1 ⌝ }
+    ensures { λ _. ⌜ length (now (steps .exit)) ≡ stepNumbers ⌝ }
 {
     match join {
         Join::Meeting => {
@@ -160,7 +161,7 @@ fn add_top(
 // The first `left` steps of the receiving side from its top down, put behind the first `count` steps: what is debited for one side is credited for the
 // other.
 fn add_turned(steps: &mut [u16], count: usize, side: &[u16; STEP_NUMBERS], left: usize) -> usize
-    requires { ⌜ (count ≤ sideLimit + 1) × (left < sideLimit) ⌝ }
+    requires { ⌜ (length (now steps) ≡ stepNumbers) × (length (now side) ≡ stepNumbers) × (count ≤ sideLimit + 1) × (left < sideLimit) ⌝ }
     ensures { λ r. ⌜ Adds (now (steps .entry)) count (turned (stepsIn (now (side .entry)) left)) (now (steps .exit)) r ⌝ }
     ensures { λ r. ⌜ r ≤ stepLimit ⌝ }
 {
@@ -168,7 +169,7 @@ fn add_turned(steps: &mut [u16], count: usize, side: &[u16; STEP_NUMBERS], left:
     let mut i = left;
     while 0 < i {
         i -= 1;
-        let step = step_at(side, i);
+        let step = step_in(side, i);
         put_step(
             steps,
             n,

@@ -1,10 +1,7 @@
--- The three numbers of the step stand behind those of the first n, where there is room for them.
+-- The three numbers of the step stand behind those of the first n.
 use mathlib.Core.Path.{sym}
 use native.Mathlib.Omega.{arith}
-use lib.ListN.{length, length-set}
-use borrow.Author.Tests.{eq-eqb, ne-eqb, le-ltb}
-use Rattle.rules.specs.Chain.{stepLimit}
-use Rattle.chain.specs.StepList.{stepNumbers, withStep}
+use lib.ListN.{length-set}
 use Rattle.chain.proofs.StepList.{put-here}
 use borrow.Author.Needs.{needs}
 use Rattle.chain.proofs.step_list.put_step.Statement.{statement}
@@ -44,15 +41,7 @@ same-length : tie.Need-same-length
 same-length c = search needs
 
 returns : tie.Need-returns
-returns c = let a = c .before .before .before .args in sym (put-here (a .steps .now) (a .n) (omega arith) (omega arith) (a .step))
-
-returns-2 : tie.Need-returns-2
-unfolding withStep
-returns-2 c = let a = c .before .before .args in rw (eq-eqb (length (a .steps .now)) stepNumbers (omega arith), le-ltb (a .n) stepLimit (omega arith))
-
-returns-3 : tie.Need-returns-3
-unfolding withStep
-returns-3 c = rw (ne-eqb _ _ (c .if1 .left))
+returns c = let a = c .before .args in sym (put-here (a .steps .now) (a .n) (omega arith) (omega arith) (a .step))
 
 pub put-step-spec : {M : Type 1} → statement M
 put-step-spec =
@@ -69,6 +58,4 @@ put-step-spec =
     mul-steps-3
     slice-write-steps-3
     same-length
-    returns
-    returns-2
-    returns-3)
+    returns)

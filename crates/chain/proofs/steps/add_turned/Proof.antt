@@ -21,8 +21,8 @@ loop-holds c = (search needs, refl, refl, λ end e a. a)
 sub-i : tie.Need-sub-i Inv-loop μ-loop
 sub-i c = search needs
 
-step-at-requires : tie.Need-step-at-requires Inv-loop μ-loop
-step-at-requires c κs = search needs
+step-in-requires : tie.Need-step-in-requires Inv-loop μ-loop
+step-in-requires c κs = search needs
 
 put-step-requires : tie.Need-put-step-requires Inv-loop μ-loop
 put-step-requires c κs = search needs
@@ -42,8 +42,8 @@ loop-again c =
       omega (arith, inv .0),
       omega (arith, inv .1),
       ap length put ∙ (length-step (l .steps) (l .n) _ ∙ inv .2),
-      turns-one (a .side .now) (a .steps .now) (a .count) (a .left) (l .i) (l .n) (l .steps) _ (c .before .before .before .before .step-at .result)
-          (omega arith) (omega (arith, inv .0, inv .1, c .before .before .before .before .before .before .before .before .before .pre)) (c .before .before .before .before .step-at .ensures) put (inv .3),
+      turns-one (a .side .now) (a .steps .now) (a .count) (a .left) (l .i) (l .n) (l .steps) _ (c .before .before .before .before .step-in .result)
+          (omega arith) (omega (arith, inv .0, inv .1, c .before .before .before .before .before .before .before .before .before .pre)) (c .before .before .before .before .step-in .ensures) put (inv .3),
     )
 
 same-length : tie.Need-same-length Inv-loop μ-loop
@@ -63,7 +63,7 @@ add-turned-spec =
     μ-loop
     loop-holds
     sub-i
-    step-at-requires
+    step-in-requires
     put-step-requires
     add-n
     loop-less

@@ -20,8 +20,8 @@ abbrev μ-loop : tie.MeasureT-loop
 loop-holds : tie.Need-loop-holds Inv-loop μ-loop
 loop-holds c = (search needs, refl, side-starts _ _)
 
-step-at-requires : tie.Need-step-at-requires Inv-loop μ-loop
-step-at-requires c κs = search needs
+step-in-requires : tie.Need-step-in-requires Inv-loop μ-loop
+step-in-requires c κs = search needs
 
 put-step-requires : tie.Need-put-step-requires Inv-loop μ-loop
 put-step-requires c κs = search needs
@@ -37,9 +37,9 @@ loop-again c =
     let l = c .before .before .before .before .before .before .before .loop in
     let a = c .before .before .before .before .before .before .before .before .before .args in
     let put = c .before .before .put-step .ensures in
-    let read = c .before .before .before .step-at .ensures in (
+    let read = c .before .before .before .step-in .ensures in (
       omega arith,
-      ap length put ∙ (length-step (l .steps) (l .i) (c .before .before .before .step-at .result) ∙ l .inv .1),
+      ap length put ∙ (length-step (l .steps) (l .i) (c .before .before .before .step-in .result) ∙ l .inv .1),
       side-goes-on (a .side .now) (a .steps .now) (l .steps) _ (l .i) (omega (arith, c .before .before .before .before .before .before .before .before .before .pre)) (rw (← read) put) (l .inv .2),
     )
 
@@ -59,7 +59,7 @@ put-side-spec =
     Inv-loop
     μ-loop
     loop-holds
-    step-at-requires
+    step-in-requires
     put-step-requires
     add-i
     loop-less
