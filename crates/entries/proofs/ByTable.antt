@@ -4,7 +4,7 @@ use mathlib.Core.Path.{_≡_}
 use mathlib.Core.Logic.{_≢_}
 use mathlib.Core.List.{List}
 use Rattle.rules.specs.Directory.{Rows}
-use Rattle.index.specs.Index.{Place, csdCount, securityCount, accountCount, pairCount, linkCount, typeAt, homeAt, kindAt, mirrorAt, omnibusAt, investorAt, technicalAt, servedAt, newestAt, linkAt, Inside, indexOf}
+use Rattle.index.specs.Index.{Place, csdCount, securityCount, accountCount, pairCount, linkCount, typeAt, homeAt, kindAt, mirrorAt, omnibusAt, investorAt, technicalAt, servedAt, newestAt, targetAt, linkAt, Inside, indexOf}
 use Rattle.entries.proofs.Stored.{Store, Apart}
 
 -- of the places that tell of CSDs
@@ -31,6 +31,7 @@ pub record OfPairs (P : Place → Type 0) : Type 0 where
 pub record OfLinks (P : Place → Type 0) : Type 0 where
   pub count : P linkCount
   pub newest : (s c : ℕ) → P (newestAt s c)
+  pub target : (s t : ℕ) → P (targetAt s t)
   pub link : (n f : ℕ) → P (linkAt n f)
 
 -- of all
@@ -49,6 +50,7 @@ every-place P c s a p l (investorAt n) = p .investor n
 every-place P c s a p l (technicalAt n) = p .technical n
 every-place P c s a p l (servedAt t n) = p .served t n
 every-place P c s a p l (newestAt n m) = l .newest n m
+every-place P c s a p l (targetAt n t) = l .target n t
 every-place P c s a p l (linkAt n f) = l .link n f
 
 -- ---- a place that is neither the count nor stored has the same number for both
@@ -78,4 +80,4 @@ module _ (r r′ : Rows) (count : Place) (ss : List Store) where
       }
 
   pub same-links : r .links ≡ r′ .links → OfLinks (Same r r′ count ss)
-  same-links e = record { count = λ i o a. rw e; newest = λ s c i o a. rw e; link = λ n f i o a. rw e }
+  same-links e = record { count = λ i o a. rw e; newest = λ s c i o a. rw e; target = λ s t i o a. rw e; link = λ n f i o a. rw e }

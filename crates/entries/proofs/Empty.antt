@@ -41,7 +41,7 @@ nothing =
       technical = λ a. ap technicalCode (no-duo a);
       served = λ t a. refl;
     })
-    (record { count = refl; newest = λ s c. refl; link = λ n f. refl })
+    (record { count = refl; newest = λ s c. refl; target = λ s t. refl; link = λ n f. refl })
 
 zeros : (n k : ℕ) → _≡_ {A = ℕ} (getD (replicate n 0) k 0) 0
 zeros zero k = refl

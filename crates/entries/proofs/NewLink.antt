@@ -1,32 +1,33 @@
--- One link more: its numbers at the next number, it as the newest of its CSD for its security, and the count.
+-- One link more: its numbers at the next number, it as the newest of its CSD for its security, its technical issuer as a target, and the count.
 use Prim.Native.Nat.{ℕ, zero, suc, _<_}
 use mathlib.Core.Path.{_≡_, refl, sym, ap, subst, _∙_}
-use mathlib.Core.Logic.{_≢_}
+use mathlib.Core.Logic.{_≢_, inl, inr}
 use mathlib.Core.Bool.{false, cond}
 use mathlib.Core.List.{List, [], _∷_, _++_, reverse}
 use mathlib.Core.Option.{Option}
 use native.Mathlib.Omega.{arith}
 use native.Mathlib.Decide.{ℕ-discrete, decLt}
-use borrow.Author.Tests.{lt-ltb}
+use borrow.Author.Tests.{lt-ltb, eq-eqb, ne-eqb}
 use lib.ListN.{length, getD, take, length-reverse}
 use Rattle.rules.specs.declared.Link.{Link}
 use Rattle.rules.specs.declared.Directory.{Directory}
 use Rattle.rules.specs.Tests.{firstOf}
-use Rattle.rules.specs.Directory.{Rows, rowsOf, rowsOn, csdLimit, securityLimit, linkLimit, isLink}
+use Rattle.rules.specs.Directory.{Rows, rowsOf, rowsOn, csdLimit, securityLimit, linkLimit, noCsd, isLink}
 use Rattle.rules.specs.Entries.{linkRow, rowConditions, addRow, linkRefusal}
 use Rattle.rules.specs.Demands.{withRow}
 use Rattle.rules.proofs.Basics.{impossible, untrue}
 use Rattle.rules.proofs.RowTests.{says-link}
 use Rattle.rules.proofs.Accounts.{security-small}
 use Rattle.rules.proofs.NewLinks.{NewLink, accepted-link}
-use Rattle.index.specs.Index.{linkCount, newestAt, linkAt, linkNumbers, rowAt, newestCode, linkCode, numbersOf, Inside, indexOf}
-use Rattle.index.proofs.LookingUp.{facts, csd-small}
+use Rattle.index.specs.Index.{Place, linkCount, newestAt, targetAt, linkAt, linkNumbers, rowAt, newestCode, makesTarget, targetCode, linkCode, numbersOf, Inside, indexOf}
+use Rattle.index.proofs.LookingUp.{facts, csd-small, says-target}
 use Rattle.index.proofs.LinkList.{reversed}
 use Rattle.index.proofs.Laws.{unknown, one-more-row, row-new, row-old}
 use Rattle.refusals.specs.Kept.{Kept, Keeps}
-use Rattle.entries.specs.Entered.{withLink, withRowIn}
-use Rattle.entries.proofs.Stored.{Store, Apart, Change}
+use Rattle.entries.specs.Entered.{withTarget, withLink, withRowIn}
+use Rattle.entries.proofs.Stored.{Store, Apart, Right, Change}
 use Rattle.entries.proofs.ByTable.{OfLinks, Same, every-place, same-csds, same-securities, same-accounts, same-pairs}
+use Rattle.entries.proofs.OneMore.{any-kept, any-new}
 use Rattle.entries.proofs.Growing.{not-full, same-names, number-is, grown}
 
 -- one of its numbers, where the next older link stands at `next`
@@ -39,6 +40,10 @@ numbers x n next = number x n next 6 ∷ number x n next 5 ∷ number x n next 4
 
 abbrev stores : Link → ℕ → ℕ → List Store
 stores x n next = record { at = newestAt (x .security) (x .csd); number = rowAt n } ∷ numbers x n next
+
+-- of an investor link also its technical issuer
+abbrev allStores : Link → ℕ → ℕ → List Store
+allStores x n next = record { at = targetAt (x .security) (x .technical); number = 1 } ∷ stores x n next
 
 -- the first n rows are the same where there are as many
 first-rows : {A : Type 0} (l : List A) (x : A) (n : ℕ) → n < length l → take n (l ++ (x ∷ [])) ≡ take n l
@@ -61,7 +66,7 @@ module _ (r : Rows) (x : Link) (few : length (r .links) < linkLimit) (cell : (x 
   next = newestCode (x .security) (x .csd) (reverse (r .links))
 
   abbrev ss : List Store
-  ss = stores x n next
+  ss = allStores x n next
 
   -- it stands newest
   newest-row : (s c : ℕ) → newestCode s c (reverse (r′ .links)) ≡ cond (isLink s c x) (rowAt n) (newestCode s c (reverse (r .links)))
@@ -75,7 +80,16 @@ module _ (r : Rows) (x : Link) (few : length (r .links) < linkLimit) (cell : (x 
       ap (λ (o : Option Link). linkCode (reverse (take n (r′ .links))) o f) (row-new (r .links) x)
       ∙ ap (λ (ls : List Link). getD (numbersOf (newestCode (x .security) (x .csd) (reverse ls)) x) f 0) (whole-rows (r .links) x)
 
+  target-new : x .kind ≡ 1 → targetCode (x .security) (x .technical) (r′ .links) ≡ 1
+  target-new k = rw (any-new (makesTarget (x .security) (x .technical)) x (r .links) (says-target (x .security) (x .technical) x .tests (refl, (k, refl))))
+
   -- every other number is as it was
+  target-kept : (s t : ℕ) → targetAt s t ≢ targetAt (x .security) (x .technical) → targetCode s t (r .links) ≡ targetCode s t (r′ .links)
+  target-kept s t o =
+      rw (any-kept (makesTarget s t) x (r .links) (untrue (makesTarget s t x) (λ e.
+      let p = says-target s t x .holds e in
+      o (rw (p .0, p .1 .1)))))
+
   link-kept : (m f : ℕ) → m ≢ n → indexOf r (linkAt m f) ≡ indexOf r′ (linkAt m f)
   link-kept m f o = go (decLt m n)
     where
@@ -88,9 +102,10 @@ module _ (r : Rows) (x : Link) (few : length (r .links) < linkLimit) (cell : (x 
       record {
         count = λ i o a. absurd (o refl);
         newest = λ s c i o a.
-            let other : isLink s c x ≡ false = untrue (isLink s c x) (λ e. let p = says-link s c x .holds e in a .0 (rw (p .0, p .1))) in
+            let other : isLink s c x ≡ false = untrue (isLink s c x) (λ e. let p = says-link s c x .holds e in a .1 .0 (rw (p .0, p .1))) in
             sym (newest-row s c ∙ rw other);
-        link = λ m f i o a. go m f (ℕ-discrete m n) (i .1) (a .1);
+        target = λ s t i o a. target-kept s t (a .0);
+        link = λ m f i o a. go m f (ℕ-discrete m n) (i .1) (a .1 .1);
       }
     where
       -- a number of the new link is one of those
@@ -111,21 +126,43 @@ module _ (r : Rows) (x : Link) (few : length (r .links) < linkLimit) (cell : (x 
   right : (f : ℕ) → f < linkNumbers → Inside (linkAt n f) × (indexOf r′ (linkAt n f) ≡ getD (numbersOf next x) f 0)
   right f h = ((few, h), number-new f)
 
-  change : Change (indexOf r) (indexOf r′) linkCount ss
-  change =
+  rights : Right (indexOf r′) (stores x n next)
+  rights = (cell, (here, (right 6 (omega arith) .0, (right 6 (omega arith) .1, (right 5 (omega arith) .0, (right 5 (omega arith) .1, (right 4 (omega arith) .0, (right 4 (omega arith) .1, (right 3 (omega arith) .0, (right 3 (omega arith) .1, (right 2 (omega arith) .0, (right 2 (omega arith) .1, (right 1 (omega arith) .0, (right 1 (omega arith) .1, (right 0 (omega arith) .0, (right 0 (omega arith) .1, tt))))))))))))))))
+
+  no-count : Apart linkCount (stores x n next)
+  no-count = ((λ e. impossible (cc)), ((λ e. impossible (cc)), ((λ e. impossible (cc)), ((λ e. impossible (cc)), ((λ e. impossible (cc)), ((λ e. impossible (cc)), ((λ e. impossible (cc)), ((λ e. impossible (cc)), tt))))))))
+
+  kept : (q : Place) → Same r r′ linkCount ss q
+  kept =
+      every-place (Same r r′ linkCount ss) (same-csds r r′ linkCount ss refl) (same-securities r r′ linkCount ss refl) (same-accounts r r′ linkCount ss refl)
+      (same-pairs r r′ linkCount ss refl) own
+
+  -- of an investor link
+  investor : x .kind ≡ 1 → x .technical < csdLimit → Change (indexOf r) (indexOf r′) linkCount ss
+  investor k small =
       record {
         inside = tt;
         few = omega (arith, few);
         more = one-more-row (r .links) x;
-        apart = ((λ e. impossible (cc)), ((λ e. impossible (cc)), ((λ e. impossible (cc)), ((λ e. impossible (cc)), ((λ e. impossible (cc)), ((λ e. impossible (cc)), ((λ e. impossible (cc)), ((λ e. impossible (cc)), tt))))))));
-        right = (cell, (here, (right 6 (omega arith) .0, (right 6 (omega arith) .1, (right 5 (omega arith) .0, (right 5 (omega arith) .1, (right 4 (omega arith) .0, (right 4 (omega arith) .1, (right 3 (omega arith) .0, (right 3 (omega arith) .1, (right 2 (omega arith) .0, (right 2 (omega arith) .1, (right 1 (omega arith) .0, (right 1 (omega arith) .1, (right 0 (omega arith) .0, (right 0 (omega arith) .1, tt))))))))))))))));
-        kept =
-            every-place (Same r r′ linkCount ss) (same-csds r r′ linkCount ss refl) (same-securities r r′ linkCount ss refl) (same-accounts r r′ linkCount ss refl)
-            (same-pairs r r′ linkCount ss refl) own;
+        apart = ((λ e. impossible (cc)), no-count);
+        right = ((cell .0, small), (target-new k, rights));
+        kept = kept;
+      }
+
+  -- of an issuer link, which has no technical issuer
+  issuer : x .technical ≡ noCsd → Change (indexOf r) (indexOf r′) linkCount (stores x n next)
+  issuer e =
+      record {
+        inside = tt;
+        few = omega (arith, few);
+        more = one-more-row (r .links) x;
+        apart = no-count;
+        right = rights;
+        kept = λ q i o a. kept q i o ((λ f. let outside : Inside (targetAt (x .security) (x .technical)) = rw f at i in omega (arith, outside .1, e)), a);
       }
 
 pub link-added : (k : Kept) (d : Directory) (x : Link) → Keeps k d → firstOf (rowConditions (rowsOf d) (linkRow x)) ≡ 0 → Keeps (withRowIn (linkRow x) k) (addRow (linkRow x) d)
-unfolding withLink linkRefusal
+unfolding withLink withTarget linkRefusal
 link-added k d x h ok =
     let r : Rows = rowsOf d in
     let N : NewLink r (r .links) x = accepted-link r (r .links) x ok in
@@ -133,5 +170,9 @@ link-added k d x h ok =
     let F = facts (h .indexed) in
     let cell : (x .security < securityLimit) × (x .csd < csdLimit) =
     (security-small (rowsOn 0 d) F (x .security) (N .facts .securityRow), csd-small (rowsOn 0 d) F (x .csd) (N .facts .csdRow)) in
+    let names = same-names (k .names) r (withRow (linkRow x) r) refl refl (h .named) in
     rw (number-is k d h linkCount tt, number-is k d h (newestAt (x .security) (x .csd)) cell, lt-ltb (length (r .links)) linkLimit few)
-    (grown k d h (linkRow x) ok (change r x few cell) (k .names) (same-names (k .names) r (withRow (linkRow x) r) refl refl (h .named)))
+    elim (N .facts .kind) [
+      | inl e ↦ rw (ne-eqb (x .kind) 1 (λ f. omega (arith, e, f))) (grown k d h (linkRow x) ok (issuer r x few cell (N .facts .issuer e .technical)) (k .names) names)
+      | inr e ↦ rw (eq-eqb (x .kind) 1 e) (grown k d h (linkRow x) ok (investor r x few cell e (csd-small (rowsOn 0 d) F (x .technical) (N .facts .investor e .technicalRow))) (k .names) names)
+    ]

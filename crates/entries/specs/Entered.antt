@@ -17,7 +17,7 @@ use Rattle.rules.specs.declared.Entered.{Entered}
 use Rattle.rules.specs.Tests.{firstOf}
 use Rattle.rules.specs.Directory.{rowsOf, csdLimit, linkLimit, noAccount}
 use Rattle.rules.specs.Entries.{Row, csdRow, securityRow, accountRow, pairRow, linkRow, rowConditions, addRow}
-use Rattle.index.specs.Index.{Place, csdCount, securityCount, accountCount, pairCount, linkCount, placeOf, types, homes, kinds, mirrors, omnibuses, investors, technicals, served, newest, links, nextNumber, firstNumber, lastNumber, kindNumber, flagNumber, technicalNumber, accountNumber, linkNumbers, rowAt, numberAt, withNumber}
+use Rattle.index.specs.Index.{Place, csdCount, securityCount, accountCount, pairCount, linkCount, placeOf, types, homes, kinds, mirrors, omnibuses, investors, technicals, served, newest, targets, links, nextNumber, firstNumber, lastNumber, kindNumber, flagNumber, technicalNumber, accountNumber, linkNumbers, rowAt, numberAt, withNumber}
 use Rattle.identifiers.specs.Names.{bicSize, isinSize, isins, withBytes}
 use Rattle.refusals.specs.Kept.{Kept, csdRefusalIn, securityRefusalIn, refusalIn}
 
@@ -68,7 +68,11 @@ withPair x l =
 abbrev pub rowFor : ℕ → ℕ
 rowFor n = cond (ltb n linkLimit) (rowAt n) 0
 
--- a link: its numbers behind those of the others, and it is the newest of its CSD for its security
+-- the technical issuer of an investor link is a target of its security
+unfoldable pub withTarget : Link → List ℕ → List ℕ
+withTarget x l = cond (eqb (x .kind) 1) (withNumber l (targets + (x .security * csdLimit + x .technical)) 1) l
+
+-- a link: its numbers behind those of the others, it is the newest of its CSD for its security, and its technical issuer is a target
 unfoldable pub withLink : Link → List ℕ → List ℕ
 withLink x l =
     let n = numberAt l (placeOf linkCount) in
@@ -82,7 +86,7 @@ withLink x l =
     (links + (n * linkNumbers + flagNumber)) (x .flag))
     (links + (n * linkNumbers + technicalNumber)) (x .technical))
     (links + (n * linkNumbers + accountNumber)) (x .account) in
-    counted linkCount (withNumber numbers cell (rowFor n))
+    counted linkCount (withTarget x (withNumber numbers cell (rowFor n)))
 
 -- any row
 abbrev pub withRowIn : Row → Kept → Kept

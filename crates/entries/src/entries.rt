@@ -23,6 +23,7 @@ use index::places::OMNIBUSES;
 use index::places::PAIR_COUNT;
 use index::places::SECURITY_COUNT;
 use index::places::SERVED;
+use index::places::TARGETS;
 use index::places::TECHNICAL;
 use index::places::TECHNICALS;
 use index::places::TYPES;
@@ -47,7 +48,7 @@ ghost use Prim.Native.Nat.{_+_, _*_, _<_};
 ghost use Rattle.index.specs.Index.{csdCount, securityCount, links, linkNumbers, placeOf, numberAt, withNumber};
 ghost use Rattle.refusals.specs.Kept.{accountRefusalIn, pairRefusalIn, linkRefusalIn};
 ghost use Rattle.entries.specs.Entered.{oneMore, withCsd, withBic, withSecurity, withIsin, withAccount};
-ghost use Rattle.entries.specs.Entered.{withDuo, withPair, rowFor, withLink};
+ghost use Rattle.entries.specs.Entered.{withDuo, withPair, rowFor, withTarget, withLink};
 ghost use Rattle.entries.specs.Entered.{answered, left, EntersCsd, EntersSecurity};
 
 // One more; a table's count and a pair's account are below the largest u16, which stays as it is.
@@ -149,6 +150,17 @@ fn row_for(link: u16) -> u16
     0
 }
 
+// The technical issuer of an investor link is a target of its security.
+fn add_target(index: &mut [u16; INDEX], row: Link)
+    ensures { λ _. ⌜ now (index .exit) ≡ withTarget row (now (index .entry)) ⌝ }
+{
+    if row.kind != 1 {
+        return;
+    }
+    let place = (row.security as usize) * CSDS + (row.technical as usize);
+    store(index, TARGETS + place, 1);
+}
+
 // A link's numbers behind those of the others, and it is the newest of its CSD for its security.
 pub fn add_link(index: &mut [u16; INDEX], row: Link)
     ensures { λ _. ⌜ now (index .exit) ≡ withLink row (now (index .entry)) ⌝ }
@@ -164,6 +176,7 @@ pub fn add_link(index: &mut [u16; INDEX], row: Link)
     put_number(index, link, TECHNICAL, row.technical as u16);
     put_number(index, link, ACCOUNT, row.account);
     store(index, cell, row_for(link));
+    add_target(index, row);
     count_on(index, LINK_COUNT);
 }
 

@@ -16,21 +16,21 @@ use Rattle.rules.specs.declared.Directory.{Directory}
 use Rattle.rules.specs.Tests.{any, find, only, isRow, isFull}
 use Rattle.rules.specs.Directory.{Rows, rowsOf, csdLimit, securityLimit, accountLimit, pairLimit, linkLimit, external, isKind, inBooks, serves, sameDuo, pairOf, isServed, isApart, noCsd, onDay, rowsOn, covers, issues, defaults, pointsTo, isLink, linksOf, linksFor, hasIssuer, hasLinkTo, issuerLink, defaultLink}
 use Rattle.rules.specs.Lookups.{ask, technicalOf, accountOf, csdOf, homeOf, issuance}
-use Rattle.rules.proofs.Basics.{impossible, clash, untrue, and-second, or-left, or-right, or-cases, eqb-is, find-some, find-none}
+use Rattle.rules.proofs.Basics.{impossible, clash, untrue, and-second, or-left, or-right, or-cases, eqb-is, any-true, any-some, none-any, find-some, find-none}
 use Rattle.rules.proofs.FirstRow.{none-found, only-found}
 use Rattle.rules.proofs.Facts.{Facts}
-use Rattle.rules.proofs.RowTests.{says-link, says-defaults}
-use Rattle.rules.proofs.Days.{in-reverse, in-links}
+use Rattle.rules.proofs.RowTests.{says-link, says-defaults, says-points}
+use Rattle.rules.proofs.Days.{in-only, in-reverse, in-links}
 use Rattle.rules.proofs.Accounts.{security-small}
 use Rattle.rules.proofs.Soundness.{sound-gives, sound-links, few-links}
 use Rattle.rules.proofs.Pairs.{found-pair}
-use Rattle.index.specs.Index.{Indexed, Place, csdCount, securityCount, accountCount, pairCount, linkCount, typeAt, homeAt, kindAt, mirrorAt, omnibusAt, investorAt, technicalAt, servedAt, newestAt, linkAt, linkNumbers, rowAt, numberAt, placeOf, newestCode, numbersOf, linkCode, indexOf, typeCode, homeCode, duoOf, servedRow, mirrorCode, omnibusCode, investorCode, technicalCode}
-use Rattle.index.specs.Asked.{IndexAnswers, has, read, homeBy, booksIn, pairBy, duoIs, linksAt, linksOn, leads, asIssuer, asDefault, isThere, askedBy}
+use Rattle.index.specs.Index.{Indexed, Place, csdCount, securityCount, accountCount, pairCount, linkCount, typeAt, homeAt, kindAt, mirrorAt, omnibusAt, investorAt, technicalAt, servedAt, newestAt, targetAt, linkAt, linkNumbers, rowAt, numberAt, placeOf, newestCode, makesTarget, numbersOf, linkCode, indexOf, typeCode, homeCode, duoOf, servedRow, mirrorCode, omnibusCode, investorCode, technicalCode}
+use Rattle.index.specs.Asked.{IndexAnswers, has, read, homeBy, booksIn, pairBy, duoIs, linksAt, linksOn, leads, asIssuer, asDefault, isThere, isTarget, askedBy}
 use Rattle.index.proofs.Laws.{unknown}
 use Rattle.index.proofs.Found.{any-found, any-missing}
 use Rattle.index.proofs.Read.{read-in, read-off, not-both, inside}
 use Rattle.index.proofs.Standing.{number-at}
-use Rattle.index.proofs.LookingUp.{facts, row-coded, next-tests, type-told, books-told, kind-told, csd-small, home-small}
+use Rattle.index.proofs.LookingUp.{facts, row-coded, next-tests, type-told, books-told, kind-told, csd-small, home-small, says-target, target-coded}
 use Rattle.index.proofs.PairReading.{found-served, apartBy, apart-by, unpaired, unserved, beside, triplet-row, no-triplet}
 use Rattle.index.proofs.LinkList.{links-on, walked-all}
 
@@ -145,13 +145,22 @@ module _ {l : List ℕ} {d : Directory} (h : Indexed l d) where
       let f = sound-links d (h .soundBooks) k m in
       (security-small q (facts h) (k .security) (f .securityRow), csd-small q (facts h) (k .csd) (f .csdRow))
 
+  target-small : (k : Link) → List·Memᴰ k (r .links) → k .kind ≡ 1 → k .technical < csdLimit
+  target-small k m e = csd-small q (facts h) (k .technical) (sound-links d (h .soundBooks) k m .investor e .technicalRow)
+
   technical-small : (k : Link) → List·Memᴰ k (r .links) → k .technical ≤ 0xff
   technical-small k m =
       let f = sound-links d (h .soundBooks) k m in
       elim (f .kind) [
         | inl z ↦ let e : k .technical ≡ noCsd = f .issuer z .technical in omega arith
-        | inr z ↦ omega (arith, csd-small q (facts h) (k .technical) (f .investor z .technicalRow))
+        | inr z ↦ omega (arith, target-small k m z)
       ]
+
+  no-target : (s t : ℕ) → (s < securityLimit → t < csdLimit → ⊥) → any (makesTarget s t) (r .links) ≡ false
+  no-target s t n =
+      none-any (makesTarget s t) (r .links) (λ x m. untrue (makesTarget s t x) (λ e.
+      let p = says-target s t x .holds e in
+      n (rw (p .0) at (linked-small x m .0)) (rw (p .1 .1) at (target-small x m (p .1 .0)))))
 
   beyond-link : (n f : ℕ) → has (linkAt n f) ≡ false → 0 ≡ linkCode (reverse (take n (r .links))) (getElem? (r .links) n) f
   beyond-link n f e = go (getElem? (r .links) n) refl
@@ -178,6 +187,7 @@ module _ {l : List ℕ} {d : Directory} (h : Indexed l d) where
   beyond (technicalAt a) e = rw (unpaired q (facts h) a (ltb-false a accountLimit e))
   beyond (servedAt t a) e = rw (unserved q (facts h) t a (not-both t a csdLimit accountLimit e))
   beyond (newestAt s c) e = sym (no-link s c (reverse (r .links)) (λ k m. linked-small k (in-reverse (r .links) k m)) (not-both s c securityLimit csdLimit e))
+  beyond (targetAt s t) e = rw (no-target s t (not-both s t securityLimit csdLimit e))
   beyond (linkAt n f) e = beyond-link n f e
 
   -- what is read is the directory's
@@ -276,11 +286,26 @@ module _ {l : List ℕ} {d : Directory} (h : Indexed l d) where
   links-on-told : (day s c : ℕ) → only (covers day) (linksAt l s c) ≡ linksFor (linksOf day (r .links)) s c
   links-on-told day s c = ap (only (covers day)) (links-told s c) ∙ sym (links-on day (r .links) s c)
 
+  -- a link that leads to the technical issuer makes it a target of its security
+  target-told : (s t : ℕ) → isTarget l s t ≡ any (makesTarget s t) (r .links)
+  target-told s t = rw (reads (targetAt s t)) (target-coded s t (r .links))
+
+  linked-told : (seen : List Link) → ((x : Link) → List·Memᴰ x seen → List·Memᴰ x (r .links)) → (s c t : ℕ)
+      → (isTarget l s t && any (pointsTo t) (linksFor seen s c)) ≡ any (pointsTo t) (linksFor seen s c)
+  linked-told seen entered s c t = rw (target-told s t) (go (any (pointsTo t) (linksFor seen s c)) refl)
+    where
+      go : (b : Bool) → any (pointsTo t) (linksFor seen s c) ≡ b → (any (makesTarget s t) (r .links) && b) ≡ b
+      go false e = and-false (any (makesTarget s t) (r .links))
+      go true e =
+          let x = any-some (pointsTo t) (linksFor seen s c) e in
+          let f = in-links seen s c (x .0) (x .1) in
+          rw (any-true (makesTarget s t) (r .links) (x .0) (entered (x .0) (f .entered)) (says-target s t (x .0) .tests (f .security, says-points t (x .0) .holds (x .2))))
+
   -- all of them
-  told : (links : ℕ → ℕ → List Link) (issuer default : ℕ → ℕ → Option Link) (seen : List Link) → ((s c : ℕ) → links s c ≡ linksFor seen s c)
+  told : (links : ℕ → ℕ → List Link) (issuer default : ℕ → ℕ → Option Link) (seen : List Link) → ((x : Link) → List·Memᴰ x seen → List·Memᴰ x (r .links)) → ((s c : ℕ) → links s c ≡ linksFor seen s c)
       → ((s c : ℕ) → issuer s c ≡ issuerLink seen s c) → ((s c : ℕ) → default s c ≡ defaultLink seen s c) → askedBy links issuer default l ≡ ask (seeing seen)
   unfolding askedBy isFull isRow hasLinkTo issuance
-  told links issuer default seen e f g = λ i.
+  told links issuer default seen entered e f g = λ i.
       record {
         accountsFull = ap (leb accountLimit) (reads accountCount) i;
         pairsFull = ap (leb pairLimit) (reads pairCount) i;
@@ -298,7 +323,7 @@ module _ {l : List ℕ} {d : Directory} (h : Indexed l d) where
         issuer = λ s c. (ap isThere (f s c) ∙ some-issuer seen s c) i;
         issuing = λ s c. accountOf (f s c i);
         onward = λ s c. technicalOf (g s c i);
-        linked = λ s c t. any (pointsTo t) (e s c i);
+        linked = λ s c t. (ap (λ (ls : List Link). isTarget l s t && any (pointsTo t) ls) (e s c) ∙ linked-told seen entered s c t) i;
       }
 
   -- on a day the issuer link or default link that is found is the only one
@@ -312,13 +337,18 @@ module _ {l : List ℕ} {d : Directory} (h : Indexed l d) where
     default-led : asDefault (find leads (linksOn l day s c)) ≡ defaultLink (linksOf day (r .links)) s c
     default-led = ap (λ (ls : List Link). asDefault (find leads ls)) (links-on-told day s c) ∙ lead-default (onDay day r) (sound-gives d (h .soundBooks) day) s c
 
+-- the links of a day are among all
+of-any-day : (day : ℕ) (ls : List Link) (x : Link) → List·Memᴰ x (linksOf day ls) → List·Memᴰ x ls
+unfolding linksOf
+of-any-day day ls x m = in-only (covers day) ls x m .0
+
 pub answers : IndexAnswers
 answers =
     record {
       ever = λ l d h.
-          told h (linksAt l) (λ s c. find issues (linksAt l s c)) (λ s c. find defaults (linksAt l s c)) (rowsOf d .links) (links-told h)
+          told h (linksAt l) (λ s c. find issues (linksAt l s c)) (λ s c. find defaults (linksAt l s c)) (rowsOf d .links) (λ x m. m) (links-told h)
           (λ s c. issuer-of h s c) (λ s c. default-of h s c);
       daily = λ l d h day.
           told h (linksOn l day) (λ s c. asIssuer (find leads (linksOn l day s c))) (λ s c. asDefault (find leads (linksOn l day s c))) (rowsOn day d .links)
-          (links-on-told h day) (issuer-led h day) (default-led h day);
+          (of-any-day day (rowsOf d .links)) (links-on-told h day) (issuer-led h day) (default-led h day);
     }

@@ -1,7 +1,7 @@
--- What a number of the index tells of CSDs and accounts, and that a sound directory has none of them beyond the index's places.
+-- What a number of the index tells of CSDs, accounts and targets, and that a sound directory has no CSD and no account beyond the index's places.
 use Prim.Native.Nat.{ℕ, zero, suc, _+_, _<_}
 use mathlib.Core.Path.{_≡_, refl}
-use mathlib.Core.Bool.{true, not}
+use mathlib.Core.Bool.{Bool, true, false, not, cond}
 use mathlib.Core.List.{List, [], _∷_}
 use mathlib.Core.Option.{Option, none, some}
 use native.Mathlib.Omega.{arith}
@@ -10,14 +10,17 @@ use lib.Dec.{eqb, ltb}
 use lib.ListN.{length, getElem?}
 use Rattle.rules.specs.declared.Csd.{Csd}
 use Rattle.rules.specs.declared.Account.{Account}
+use Rattle.rules.specs.declared.Link.{Link}
 use Rattle.rules.specs.declared.Directory.{Directory}
-use Rattle.rules.specs.Tests.{isRow}
-use Rattle.rules.specs.Directory.{Rows, rowsOn, csdLimit, typeIs, kindIs, csdIs, inBooks}
+use Rattle.rules.specs.Tests.{any, isRow}
+use Rattle.rules.specs.Directory.{Rows, rowsOn, csdLimit, typeIs, kindIs, csdIs, inBooks, pointsTo}
 use Rattle.rules.proofs.Basics.{equal-tests, eqb-is, eqb-true, eqb-false, ltb-is, ltb-true, ltb-false}
+use Rattle.rules.proofs.Reflection.{Says, says-and, says-eq}
+use Rattle.rules.proofs.RowTests.{says-points}
 use Rattle.rules.proofs.Facts.{Facts}
 use Rattle.rules.proofs.Soundness.{sound-gives}
 use Rattle.index.proofs.Laws.{unknown}
-use Rattle.index.specs.Index.{Indexed, typeCode, homeCode, kindCode}
+use Rattle.index.specs.Index.{Indexed, typeCode, homeCode, kindCode, makesTarget, targetCode}
 
 -- the facts of the directory whose index the list is; but for links they are the same on every day
 pub facts : {ix : List ℕ} {d : Directory} → Indexed ix d → Facts (rowsOn 0 d)
@@ -68,3 +71,14 @@ module _ (r : Rows) (F : Facts r) where
   pub home-small : (a : ℕ) (x : Account) → getElem? (r .accounts) a ≡ some x → x .csd < csdLimit
   unfolding inBooks
   home-small a x e = csd-small (x .csd) (F .homeRow a (x .csd) (rw e (eqb-true (x .csd) (x .csd) refl)))
+
+-- ---- targets
+pub says-target : (s t : ℕ) (x : Link) → Says ((x .security ≡ s) × ((x .kind ≡ 1) × (x .technical ≡ t))) (makesTarget s t x)
+says-target s t x = says-and (eqb (x .security) s) (pointsTo t x) (says-eq (x .security) s) (says-points t x)
+
+pub target-coded : (s t : ℕ) (ls : List Link) → not (eqb (targetCode s t ls) 0) ≡ any (makesTarget s t) ls
+target-coded s t ls = go (any (makesTarget s t) ls)
+  where
+    go : (b : Bool) → not (eqb (cond b 1 0) 0) ≡ b
+    go true = refl
+    go false = refl

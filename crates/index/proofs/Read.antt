@@ -8,7 +8,7 @@ use lib.Dec.{ltb}
 use borrow.Author.Tests.{ltb-true, lt-ltb}
 use Rattle.rules.specs.Directory.{csdLimit, securityLimit, accountLimit, linkLimit}
 use Rattle.rules.proofs.Basics.{clash, and-both, and-true}
-use Rattle.index.specs.Index.{Place, csdCount, securityCount, accountCount, pairCount, linkCount, typeAt, homeAt, kindAt, mirrorAt, omnibusAt, investorAt, technicalAt, servedAt, newestAt, linkAt, linkNumbers, Inside, placeOf, numberAt}
+use Rattle.index.specs.Index.{Place, csdCount, securityCount, accountCount, pairCount, linkCount, typeAt, homeAt, kindAt, mirrorAt, omnibusAt, investorAt, technicalAt, servedAt, newestAt, targetAt, linkAt, linkNumbers, Inside, placeOf, numberAt}
 use Rattle.index.specs.Asked.{has, read}
 
 pub read-in : (l : List ℕ) (p : Place) → has p ≡ true → numberAt l (placeOf p) ≡ read l p
@@ -50,4 +50,5 @@ inside (investorAt a) e = ltb-true a accountLimit e
 inside (technicalAt a) e = ltb-true a accountLimit e
 inside (servedAt t a) e = both t a csdLimit accountLimit e
 inside (newestAt s c) e = both s c securityLimit csdLimit e
+inside (targetAt s t) e = both s t securityLimit csdLimit e
 inside (linkAt n f) e = both n f linkLimit linkNumbers e

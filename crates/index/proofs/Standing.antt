@@ -10,7 +10,7 @@ use lib.ListN.{length, getD, length-set}
 use lib.Seq.{getD-set-same, getD-set-other}
 use borrow.Author.Tests.{lt-ltb, le-ltb}
 use Rattle.rules.specs.Directory.{csdLimit}
-use Rattle.index.specs.Index.{Place, csdCount, securityCount, accountCount, pairCount, linkCount, typeAt, homeAt, kindAt, mirrorAt, omnibusAt, investorAt, technicalAt, servedAt, newestAt, linkAt, linkNumbers, Inside, placeOf, types, homes, kinds, mirrors, omnibuses, investors, technicals, served, newest, links, indexSize, numberAt, withNumber}
+use Rattle.index.specs.Index.{Place, csdCount, securityCount, accountCount, pairCount, linkCount, typeAt, homeAt, kindAt, mirrorAt, omnibusAt, investorAt, technicalAt, servedAt, newestAt, targetAt, linkAt, linkNumbers, Inside, placeOf, types, homes, kinds, mirrors, omnibuses, investors, technicals, served, newest, targets, links, indexSize, numberAt, withNumber}
 
 -- ---- the number of a place tells the place
 pub below : (p : Place) → Inside p → placeOf p < indexSize
@@ -28,6 +28,7 @@ below (investorAt a) i = omega arith
 below (technicalAt a) i = omega arith
 below (servedAt t a) i = omega arith
 below (newestAt s c) i = omega arith
+below (targetAt s t) i = omega arith
 below (linkAt n f) i = omega arith
 
 -- the place at a number
@@ -45,9 +46,11 @@ placeAt n =
     (cond (ltb n technicals) (investorAt (n - investors)) (technicalAt (n - technicals))))
     (cond (ltb n newest)
     (servedAt ((n - served) % csdLimit) ((n - served) / csdLimit))
-    (cond (ltb n links)
+    (cond (ltb n targets)
     (newestAt ((n - newest) / csdLimit) ((n - newest) % csdLimit))
-    (linkAt ((n - links) / linkNumbers) ((n - links) % linkNumbers)))))
+    (cond (ltb n links)
+    (targetAt ((n - targets) / csdLimit) ((n - targets) % csdLimit))
+    (linkAt ((n - links) / linkNumbers) ((n - links) % linkNumbers))))))
 
 -- a number of a table of CSDs by something
 line : (from n c : ℕ) → c < csdLimit → (from + (n * csdLimit + c) - from) / csdLimit ≡ n
@@ -88,12 +91,15 @@ told (servedAt t a) i =
     rw (le-ltb n mirrors (omega arith), le-ltb n served (omega arith), lt-ltb n newest (omega arith), line served a t (i .0), column served a t (i .0))
 told (newestAt s c) i =
     let n : ℕ = newest + (s * csdLimit + c) in
-    rw (le-ltb n mirrors (omega arith), le-ltb n served (omega arith), le-ltb n newest (omega arith), lt-ltb n links (omega arith), line newest s c (i .1), column newest s c (i .1))
+    rw (le-ltb n mirrors (omega arith), le-ltb n served (omega arith), le-ltb n newest (omega arith), lt-ltb n targets (omega arith), line newest s c (i .1), column newest s c (i .1))
+told (targetAt s t) i =
+    let n : ℕ = targets + (s * csdLimit + t) in
+    rw (le-ltb n mirrors (omega arith), le-ltb n served (omega arith), le-ltb n newest (omega arith), le-ltb n targets (omega arith), lt-ltb n links (omega arith), line targets s t (i .1), column targets s t (i .1))
 told (linkAt m f) i =
     let n : ℕ = links + (m * linkNumbers + f) in
     let row : (links + (m * linkNumbers + f) - links) / linkNumbers ≡ m = omega arith in
     let number : (links + (m * linkNumbers + f) - links) % linkNumbers ≡ f = omega arith in
-    rw (le-ltb n mirrors (omega arith), le-ltb n served (omega arith), le-ltb n newest (omega arith), le-ltb n links (omega arith), row, number)
+    rw (le-ltb n mirrors (omega arith), le-ltb n served (omega arith), le-ltb n newest (omega arith), le-ltb n targets (omega arith), le-ltb n links (omega arith), row, number)
 
 pub same-place : (p q : Place) → Inside p → Inside q → placeOf p ≡ placeOf q → p ≡ q
 same-place p q i j e = sym (told p i) ∙ (ap placeAt e ∙ told q j)

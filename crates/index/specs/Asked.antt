@@ -12,7 +12,7 @@ use Rattle.rules.specs.declared.Directory.{Directory}
 use Rattle.rules.specs.Tests.{any, find, only}
 use Rattle.rules.specs.Directory.{rowsOf, rowsOn, covers, issues, defaults, pointsTo, csdLimit, securityLimit, accountLimit, pairLimit, linkLimit, noCsd}
 use Rattle.rules.specs.Lookups.{Lookups, technicalOf, accountOf, ask}
-use Rattle.index.specs.Index.{Indexed, Place, csdCount, securityCount, accountCount, pairCount, linkCount, typeAt, homeAt, kindAt, mirrorAt, omnibusAt, investorAt, technicalAt, servedAt, newestAt, linkAt, nextNumber, firstNumber, lastNumber, kindNumber, flagNumber, technicalNumber, accountNumber, linkNumbers, lastRow, placeOf, numberAt}
+use Rattle.index.specs.Index.{Indexed, Place, csdCount, securityCount, accountCount, pairCount, linkCount, typeAt, homeAt, kindAt, mirrorAt, omnibusAt, investorAt, technicalAt, servedAt, newestAt, targetAt, linkAt, nextNumber, firstNumber, lastNumber, kindNumber, flagNumber, technicalNumber, accountNumber, linkNumbers, lastRow, placeOf, numberAt}
 
 -- the places that an index has
 abbrev pub has : Place → Bool
@@ -30,6 +30,7 @@ has (investorAt a) = ltb a accountLimit
 has (technicalAt a) = ltb a accountLimit
 has (servedAt t a) = ltb t csdLimit && ltb a accountLimit
 has (newestAt s c) = ltb s securityLimit && ltb c csdLimit
+has (targetAt s t) = ltb s securityLimit && ltb t csdLimit
 has (linkAt n f) = ltb n linkLimit && ltb f linkNumbers
 
 -- the number at a place of the list, 0 beyond
@@ -90,6 +91,10 @@ linksFrom l s c (suc k) p = cond (endsAt p) [] (linkIn l s c p ∷ linksFrom l s
 abbrev pub linksAt : List ℕ → ℕ → ℕ → List Link
 linksAt l s c = linksFrom l s c (read l (newestAt s c)) (read l (newestAt s c))
 
+-- an investor link for the security has the CSD as technical issuer
+abbrev pub isTarget : List ℕ → ℕ → ℕ → Bool
+isTarget l s t = not (eqb (read l (targetAt s t)) 0)
+
 -- an issuer link or a default link: on a day a CSD has one of them at most for a security
 abbrev pub leads : Link → Bool
 leads x = issues x || defaults x
@@ -129,7 +134,7 @@ askedBy links issuer default l =
       issuer = λ s c. isThere (issuer s c);
       issuing = λ s c. accountOf (issuer s c);
       onward = λ s c. technicalOf (default s c);
-      linked = λ s c t. any (pointsTo t) (links s c);
+      linked = λ s c t. isTarget l s t && any (pointsTo t) (links s c);
     }
 
 -- those of all links

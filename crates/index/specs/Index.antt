@@ -12,13 +12,13 @@ use Rattle.rules.specs.declared.Account.{Account}
 use Rattle.rules.specs.declared.Pair.{Pair}
 use Rattle.rules.specs.declared.Link.{Link}
 use Rattle.rules.specs.declared.Directory.{Directory}
-use Rattle.rules.specs.Directory.{Rows, rowsOf, csdLimit, securityLimit, accountLimit, pairLimit, linkLimit, noAccount, uses, isLink}
-use Rattle.rules.specs.Tests.{find}
+use Rattle.rules.specs.Directory.{Rows, rowsOf, csdLimit, securityLimit, accountLimit, pairLimit, linkLimit, noAccount, uses, isLink, pointsTo}
+use Rattle.rules.specs.Tests.{any, find}
 use Rattle.rules.specs.Entries.{sound}
 
 -- What stands in an index: the counts of the five tables; by CSD its type; by account its CSD, its kind and the duo that it is in: investor, technical
--- issuer and the two accounts; by technical issuer and account served the first account of their pair row; by security and CSD their newest link; by
--- link its numbers.
+-- issuer and the two accounts; by technical issuer and account served the first account of their pair row; by security and CSD their newest link, and
+-- whether an investor link for the security leads to the CSD; by link its numbers.
 pub data Place : Type 0 where
   csdCount : Place
   securityCount : Place
@@ -34,6 +34,7 @@ pub data Place : Type 0 where
   technicalAt : ℕ → Place
   servedAt : ℕ → ℕ → Place
   newestAt : ℕ → ℕ → Place
+  targetAt : ℕ → ℕ → Place
   linkAt : ℕ → ℕ → Place
 
 -- a number more than a row's, and 0 for no row
@@ -138,8 +139,11 @@ served = technicals + accountLimit
 abbrev pub newest : ℕ
 newest = served + accountLimit * csdLimit
 
+abbrev pub targets : ℕ
+targets = newest + securityLimit * csdLimit
+
 abbrev pub links : ℕ
-links = newest + securityLimit * csdLimit
+links = targets + securityLimit * csdLimit
 
 -- how many numbers an index has
 abbrev pub indexSize : ℕ
@@ -157,6 +161,14 @@ lastRow = indexSize - linkNumbers
 abbrev pub newestCode : ℕ → ℕ → List Link → ℕ
 newestCode s c [] = 0
 newestCode s c (x ∷ older) = cond (isLink s c x) (rowAt (length older)) (newestCode s c older)
+
+-- an investor link for the security to the technical issuer
+abbrev pub makesTarget : ℕ → ℕ → Link → Bool
+makesTarget s t x = eqb (x .security) s && pointsTo t x
+
+-- 1 where there is one, else 0
+abbrev pub targetCode : ℕ → ℕ → List Link → ℕ
+targetCode s t ls = cond (any (makesTarget s t) ls) 1 0
 
 -- the numbers of a link, where the next older one stands at `next`
 abbrev pub numbersOf : ℕ → Link → List ℕ
@@ -183,6 +195,7 @@ indexOf r (investorAt a) = investorCode (duoOf (r .pairs) a)
 indexOf r (technicalAt a) = technicalCode (duoOf (r .pairs) a)
 indexOf r (servedAt t a) = mirrorCode (servedRow (r .pairs) t a)
 indexOf r (newestAt s c) = newestCode s c (reverse (r .links))
+indexOf r (targetAt s t) = targetCode s t (r .links)
 indexOf r (linkAt n f) = linkCode (reverse (take n (r .links))) (getElem? (r .links) n) f
 
 -- the places that an index has
@@ -201,6 +214,7 @@ Inside (investorAt a) = a < accountLimit
 Inside (technicalAt a) = a < accountLimit
 Inside (servedAt t a) = (t < csdLimit) × (a < accountLimit)
 Inside (newestAt s c) = (s < securityLimit) × (c < csdLimit)
+Inside (targetAt s t) = (s < securityLimit) × (t < csdLimit)
 Inside (linkAt n f) = (n < linkLimit) × (f < linkNumbers)
 
 -- the number at a place of a list, 0 behind the end of an index
@@ -227,6 +241,7 @@ placeOf (investorAt a) = investors + a
 placeOf (technicalAt a) = technicals + a
 placeOf (servedAt t a) = served + (a * csdLimit + t)
 placeOf (newestAt s c) = newest + (s * csdLimit + c)
+placeOf (targetAt s t) = targets + (s * csdLimit + t)
 placeOf (linkAt n f) = links + (n * linkNumbers + f)
 
 -- the tables are as long as their limits, rows that are not in use among them

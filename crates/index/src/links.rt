@@ -1,5 +1,5 @@
 // The links of a CSD for a security, which the index has as a list, newest first: the newest by security and CSD, the next older one with each link. No other
-// link is read. Each question is answered for every list of numbers as specs/Asked says.
+// link is read; whether any link for a security leads to a CSD stands at one place. Each question is answered for every list of numbers as specs/Asked says.
 use crate::places::ACCOUNT;
 use crate::places::FIRST;
 use crate::places::FLAG;
@@ -9,6 +9,7 @@ use crate::places::LAST;
 use crate::places::LAST_ROW;
 use crate::places::NEWEST;
 use crate::places::NEXT;
+use crate::places::TARGETS;
 use crate::places::TECHNICAL;
 use rules::CSDS;
 use rules::Link;
@@ -16,12 +17,13 @@ use rules::NO_ACCOUNT;
 use rules::NO_CSD;
 use rules::SECURITIES;
 ghost use mathlib.Core.Path.{_≡_};
-ghost use mathlib.Core.Bool.{_&&_};
-ghost use Prim.Native.Nat.{_+_, _≤_, _<_};
-ghost use Rattle.rules.specs.Directory.{covers, pointsTo};
+ghost use mathlib.Core.Bool.{_&&_, cond};
+ghost use Prim.Native.Nat.{_+_, _*_, _≤_, _<_};
+ghost use lib.Dec.{ltb};
+ghost use Rattle.rules.specs.Directory.{csdLimit, securityLimit, covers, pointsTo};
 ghost use Rattle.rules.specs.Entries.{hasDayIn, meets, defaultOn};
-ghost use Rattle.index.specs.Index.{newestAt, technicalNumber, linkNumbers, lastRow, numberAt};
-ghost use Rattle.index.specs.Asked.{read, technicalBy, linkIn, olderAt, leads, linksAt, asked, askedOn};
+ghost use Rattle.index.specs.Index.{newestAt, technicalNumber, linkNumbers, targets, lastRow, numberAt};
+ghost use Rattle.index.specs.Asked.{read, technicalBy, linkIn, olderAt, leads, linksAt, isTarget, asked, askedOn};
 ghost use Rattle.index.specs.Found.{leadingOf, leadIn, wants, foundIn, dayAfter};
 
 // Where a CSD's links for a security lead by default: nowhere further for an issuer, else to a technical issuer, if there is a default link.
@@ -47,9 +49,10 @@ fn number_at(index: &[u16; INDEX], link: u16, number: usize) -> u16
     index[(link as usize) + number]
 }
 
-// Where the newest link of the CSD for the security stands, 0 for none.
-fn newest_link(index: &[u16; INDEX], security: u8, csd: u8) -> u16
-    ensures { λ r. ⌜ r ≡ read (now (index .entry)) (newestAt security csd) ⌝ }
+// The number of the security and the CSD among those that stand from a place on, 0 beyond the tables.
+fn number_by(index: &[u16; INDEX], from: usize, security: u8, csd: u8) -> u16
+    requires { ⌜ from ≤ targets ⌝ }
+    ensures { λ r. ⌜ r ≡ cond (ltb security securityLimit && ltb csd csdLimit) (numberAt (now (index .entry)) (from + (security * csdLimit + csd))) 0 ⌝ }
 {
     let s = security as usize;
     let c = csd as usize;
@@ -59,7 +62,14 @@ fn newest_link(index: &[u16; INDEX], security: u8, csd: u8) -> u16
     if CSDS <= c {
         return 0;
     }
-    index[NEWEST + (s * CSDS + c)]
+    index[from + (s * CSDS + c)]
+}
+
+// Where the newest link of the CSD for the security stands, 0 for none.
+fn newest_link(index: &[u16; INDEX], security: u8, csd: u8) -> u16
+    ensures { λ r. ⌜ r ≡ read (now (index .entry)) (newestAt security csd) ⌝ }
+{
+    number_by(index, NEWEST, security, csd)
 }
 
 // Where the next older link stands, which is before this one; 0 for none.
@@ -174,7 +184,10 @@ fn leads_on(index: &[u16; INDEX], link: u16, day: u16) -> bool
         return false;
     }
     let kind = number_at(index, link, KIND);
-    (kind == 0) | ((kind == 1) & (number_at(index, link, FLAG) == 1))
+    if kind == 0 {
+        return true;
+    }
+    (kind == 1) & (number_at(index, link, FLAG) == 1)
 }
 
 // Whether the link is an investor link to the technical issuer on the day.
@@ -182,10 +195,10 @@ fn points_on(index: &[u16; INDEX], link: u16, technical: u8, day: u16) -> bool
     requires { ⌜ link ≤ lastRow ⌝ }
     ensures { λ r. ⌜ r ≡ (covers day (linkIn (now (index .entry)) 0 0 link) && pointsTo technical (linkIn (now (index .entry)) 0 0 link)) ⌝ }
 {
-    if !is_valid(index, link, day) {
+    if technical_of(index, link) != technical {
         return false;
     }
-    (number_at(index, link, KIND) == 1) & (technical_of(index, link) == technical)
+    (number_at(index, link, KIND) == 1) & is_valid(index, link, day)
 }
 
 // Where the CSD's issuer link or default link for the security on the day stands, 0 for none.
@@ -233,10 +246,20 @@ pub fn issuance_of(index: &[u16; INDEX], security: u8, csd: u8, day: u16) -> u16
     number_at(index, link, ACCOUNT)
 }
 
+// Whether an investor link for the security has the CSD as technical issuer.
+pub fn is_target(index: &[u16; INDEX], security: u8, csd: u8) -> bool
+    ensures { λ r. ⌜ r ≡ isTarget (now (index .entry)) security csd ⌝ }
+{
+    number_by(index, TARGETS, security, csd) != 0
+}
+
 // An investor link on the day, "default or alternative", to this technical issuer.
 pub fn has_link_to(index: &[u16; INDEX], security: u8, csd: u8, technical: u8, day: u16) -> bool
     ensures { λ r. ⌜ r ≡ askedOn (now (index .entry)) day .linked security csd technical ⌝ }
 {
+    if !is_target(index, security, technical) {
+        return false;
+    }
     let mut link = newest_link(index, security, csd);
     if LAST_ROW < link {
         return false;

@@ -40,8 +40,11 @@ pub const SERVED: usize = TECHNICALS + ACCOUNTS;
 // By security and CSD: where their newest link stands, 0 for none.
 pub const NEWEST: usize = SERVED + ACCOUNTS * CSDS;
 
+// By security and CSD: 1 where an investor link for the security has it as technical issuer, else 0.
+pub const TARGETS: usize = NEWEST + SECURITIES * CSDS;
+
 // By link: its numbers.
-pub const LINK_ROWS: usize = NEWEST + SECURITIES * CSDS;
+pub const LINK_ROWS: usize = TARGETS + SECURITIES * CSDS;
 
 // Where the next older link of the CSD for the security stands, 0 for none; the first and the last day; kind, flag, technical issuer and account.
 pub const NEXT: usize = 0;

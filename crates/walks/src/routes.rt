@@ -10,6 +10,7 @@ use crate::walks::Walk;
 use crate::walks::default_walk;
 use crate::walks::directed_walk;
 use index::links::has_link_to;
+use index::links::is_target;
 use index::places::INDEX;
 use rules::Join;
 use rules::Verdict;
@@ -19,7 +20,7 @@ ghost use Rattle.rules.specs.Tests.{any};
 ghost use Rattle.rules.specs.Walks.{defaultWalk, directedWalk};
 ghost use Rattle.rules.specs.Chain.{judged, joinedBy, route};
 ghost use Rattle.rules.specs.Chain.Route.{sides};
-ghost use Rattle.index.specs.Asked.{askedOn};
+ghost use Rattle.index.specs.Asked.{isTarget, askedOn};
 ghost use Rattle.walks.specs.Sides.{named};
 ghost use Rattle.walks.specs.Walks.{walkOf};
 ghost use Rattle.walks.specs.Routes.{CommonEnd, Meets, turns, routeOf};
@@ -106,12 +107,16 @@ fn shared_csds(delivering: Walk, receiving: Walk) -> usize
     }
 }
 
-// Whether a directed walk leaves a default one at the CSD: it is the target, or has a link to it.
-fn turns_at(index: &[u16; INDEX], security: u8, target: u8, csd: u8, day: u16) -> bool
+// Whether a directed walk leaves a default one at the CSD: it is the target, or has a link to it; `linked` says whether any link for the security leads there.
+fn turns_at(index: &[u16; INDEX], security: u8, target: u8, linked: bool, csd: u8, day: u16) -> bool
+    requires { ⌜ linked ≡ isTarget (now index) security target ⌝ }
     ensures { λ r. ⌜ r ≡ turns (askedOn (now (index .entry)) day) security target csd ⌝ }
 {
     if csd == target {
         return true;
+    }
+    if !linked {
+        return false;
     }
     has_link_to(index, security, csd, target, day)
 }
@@ -122,9 +127,10 @@ fn turns_along(index: &[u16; INDEX], security: u8, target: u8, side: Side, day: 
 {
     let csds = side.csds;
     let n = length_of(side);
+    let linked = is_target(index, security, target);
     let mut i: usize = 0;
     while i < n {
-        if turns_at(index, security, target, csds[i], day) {
+        if turns_at(index, security, target, linked, csds[i], day) {
             return true;
         }
         i += 1;

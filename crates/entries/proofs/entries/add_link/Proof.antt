@@ -62,13 +62,17 @@ row-for-requires c κs = search needs
 store-requires : tie.Need-store-requires
 store-requires c κs = search needs
 
+add-target-requires : tie.Need-add-target-requires
+add-target-requires c κs = search needs
+
 count-on-requires : tie.Need-count-on-requires
 count-on-requires c κs = search needs
 
 returns : tie.Need-returns
 unfolding counted withLink
 returns c =
-    let cell = c .before .before in
+    let target = c .before .before in
+    let cell = target .before .before in
     let account = cell .before .before .before in
     let technical = account .before .before in
     let flag = technical .before .before .before in
@@ -79,6 +83,7 @@ returns c =
     let link = next .before .before .before .before .before .before in
     c .count-on .ensures
     ∙ rw (
+      target .add-target .ensures,
       cell .store .ensures,
       cell .before .row-for .ensures,
       account .put-number7 .ensures,
@@ -115,5 +120,6 @@ add-link-spec =
     put-number-requires-7
     row-for-requires
     store-requires
+    add-target-requires
     count-on-requires
     returns)
