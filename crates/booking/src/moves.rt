@@ -1,8 +1,8 @@
 // Bring in and take out: one step between a participant account and the account against which its CSD holds the security.
+use crate::first_refusal::book_refusal;
+use crate::first_refusal::call_refusal;
+use crate::first_refusal::out_of_range;
 use crate::positions::move_units;
-use crate::refusals::book_refusal;
-use crate::refusals::call_refusal;
-use crate::refusals::out_of_range;
 use holdings::judging::judge_step;
 use index::links::Leading;
 use index::links::issuance_of;

@@ -1,9 +1,9 @@
 // Pay in and pay out: they change a participant account's cash.
 use crate::cash::add_cents;
+use crate::first_refusal::book_refusal;
+use crate::first_refusal::call_refusal;
+use crate::first_refusal::out_of_range;
 use crate::numbers::signed;
-use crate::refusals::book_refusal;
-use crate::refusals::call_refusal;
-use crate::refusals::out_of_range;
 use holdings::cash::cash_short;
 use holdings::cash::payout_beyond;
 use holdings::cash::receipt_beyond;

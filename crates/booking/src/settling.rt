@@ -1,7 +1,7 @@
 // Settlement of two halves: the steps of their chain are booked, and "receiving cash pays delivering cash".
 use crate::cash::pay;
+use crate::first_refusal::book_refusal;
 use crate::positions::move_units;
-use crate::refusals::book_refusal;
 use chain::derivation::chain_of;
 use chain::step_list::STEP_NUMBERS;
 use chain::step_list::step_at;
