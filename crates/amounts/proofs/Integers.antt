@@ -1,13 +1,15 @@
 -- Sums, orders, sizes and 64 bits over ℤ, for `omega`: each law says of the parts above and below zero what it says of the numbers.
 use mathlib.Core.Path.{_≡_, refl, sym, _∙_}
-use mathlib.Core.Bool.{true, false, true≢false}
+use mathlib.Core.Bool.{true, false, not, true≢false}
 use Prim.Native.Nat.{ℕ, suc, _+_, _-_, _<_, _≤_, _^_}
 use native.Mathlib.Omega.{arith}
 use lib.IntN.{ℤ, pos, negsuc, negℤ, natAbs, _+ℤ_, _-ℤ_}
-use lib.Signed.{ltZ}
-use borrow.Author.Tests.{ltb-true, ltb-false, lt-ltb, le-ltb}
+use lib.Dec.{leb, ltb}
+use lib.Signed.{ltZ, leZ}
+use borrow.Author.Tests.{ltb-true, ltb-false, lt-ltb, le-ltb, leb-true, le-leb}
 use mir.Syntax.{w64}
 use mir.Val.{SFits}
+use Rattle.rules.proofs.Basics.{equal-tests, unnot}
 use Rattle.rules.proofs.Int
 
 -- the parts, as `omega` computes them
@@ -26,6 +28,10 @@ up-is (negsuc n) = Int.up-neg (pos (suc n)) ∙ Int.dn-pos (suc n)
 dn-is : (z : ℤ) → Int.dn z ≡ dn z
 dn-is (pos n) = Int.dn-pos n
 dn-is (negsuc n) = Int.dn-neg (pos (suc n)) ∙ Int.up-pos (suc n)
+
+-- the test of counts
+leb-is : (a b : ℕ) → leb a b ≡ not (ltb b a)
+leb-is a b = equal-tests (leb a b) (not (ltb b a)) (λ t. rw (le-ltb b a (leb-true a b t))) (λ t. le-leb a b (ltb-false b a (unnot (ltb b a) t)))
 
 -- sums, and numbers with their sign turned
 pub add-law : (a b : ℤ) → up (a +ℤ b) + (dn a + dn b) ≡ dn (a +ℤ b) + (up a + up b)
@@ -64,6 +70,13 @@ to-lt-false (pos a) (pos b) h = le-ltb a b (omega arith)
 to-lt-false (pos a) (negsuc b) h = refl
 to-lt-false (negsuc a) (pos b) h = absurd (omega arith)
 to-lt-false (negsuc a) (negsuc b) h = le-ltb b a (omega arith)
+
+-- not above is not below the other way round
+pub le-is : (a b : ℤ) → leZ a b ≡ not (ltZ b a)
+le-is (pos a) (pos b) = leb-is a b
+le-is (pos a) (negsuc b) = refl
+le-is (negsuc a) (pos b) = refl
+le-is (negsuc a) (negsuc b) = leb-is b a
 
 -- the size is what one part has more than the other
 pub size : (z : ℤ) → natAbs z ≡ up z - dn z + (dn z - up z)

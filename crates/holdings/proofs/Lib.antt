@@ -1,3 +1,4 @@
 pub mod Bounds
 pub mod Listed
+pub mod Fitting
 pub mod Summed

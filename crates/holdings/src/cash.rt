@@ -18,9 +18,11 @@ pub(crate) fn balance_of(cash: &[i64], account: u16) -> Cents
 pub fn cash_short(cash: &[i64], account: u16, amount: u64) -> bool
     ensures { λ r. ⌜ r ≡ cashShort (now (cash .entry)) account amount ⌝ }
 {
+    if amount == 0 {
+        return false;
+    }
     let paying = balance_of(cash, account);
-    let below = is_below(paying.0, amount);
-    (amount != 0) & below
+    is_below(paying.0, amount)
 }
 
 // 22 of the account that receives the amount.
@@ -43,7 +45,8 @@ pub fn payout_beyond(cash: &[i64], account: u16, amount: u64) -> bool
 pub fn payment_beyond(cash: &[i64], payer: u16, payee: u16, amount: u64) -> bool
     ensures { λ r. ⌜ r ≡ paymentBeyond (now (cash .entry)) payer payee amount ⌝ }
 {
-    let low = payout_beyond(cash, payer, amount);
-    let high = receipt_beyond(cash, payee, amount);
-    (amount != 0) & (low | high)
+    if amount != 0 {
+        return payout_beyond(cash, payer, amount) | receipt_beyond(cash, payee, amount);
+    }
+    false
 }

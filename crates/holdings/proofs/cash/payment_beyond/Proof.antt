@@ -1,5 +1,6 @@
--- The two tests, unless the amount is 0.
+-- An amount of 0 touches nothing; any other is judged by the two tests.
 use borrow.Author.Needs.{needs}
+use borrow.Author.Tests.{ne-eqb}
 use Rattle.rules.specs.Booking.{paymentBeyond}
 use Rattle.holdings.proofs.cash.payment_beyond.Statement.{statement}
 use Rattle.holdings.proofs.cash.payment_beyond.Tie as tie
@@ -12,7 +13,14 @@ receipt-beyond-requires c κs = search needs
 
 returns : tie.Need-returns
 unfolding paymentBeyond
-returns c = simp (c .receipt-beyond .ensures, c .before .payout-beyond .ensures)
+returns c =
+    let t = c .before .before in
+    rw (ne-eqb (t .before .args .amount) 0 (t .if1 .taken), c .before .payout-beyond .ensures, c .receipt-beyond .ensures)
+
+returns-2 : tie.Need-returns-2
+unfolding paymentBeyond
+returns-2 c = rw (c .if1 .left)
 
 pub payment-beyond-spec : {M : Type 1} → statement M
-payment-beyond-spec = tie.close (tie.spec payout-beyond-requires receipt-beyond-requires returns)
+payment-beyond-spec =
+    tie.close (tie.spec payout-beyond-requires receipt-beyond-requires returns returns-2)

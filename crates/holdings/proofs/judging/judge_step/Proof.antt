@@ -1,4 +1,4 @@
--- The two kinds and the two positions read.
+-- Whether the account debited may fall below 0, and the two positions read.
 use borrow.Author.Needs.{needs, sfits-of}
 use mir.Facts.{toZ-ofZ}
 use mir.Syntax.{w64}
@@ -6,11 +6,8 @@ use mir.Val.{SFits}
 use Rattle.holdings.proofs.judging.judge_step.Statement.{statement}
 use Rattle.holdings.proofs.judging.judge_step.Tie as tie
 
-is-kind-requires : tie.Need-is-kind-requires
-is-kind-requires c κs = search needs
-
-is-kind-requires-2 : tie.Need-is-kind-requires-2
-is-kind-requires-2 c κs = search needs
+is-floored-requires : tie.Need-is-floored-requires
+is-floored-requires c κs = search needs
 
 position-of-requires : tie.Need-position-of-requires
 position-of-requires c κs = search needs
@@ -32,13 +29,12 @@ returns c =
     let below = c .before .before .before .before in
     let to = below .before .before in
     let from = to .before in
-    let kinds = from .before in
     let f : SFits w64 (from .position-of .result .0) = sfits-of (below .before .struct-told .given .0 .1) in
     let g : SFits w64 (to .position-of2 .result .0) = sfits-of (c .before .struct-told3 .given .0 .1) in
     let less = simp toZ-ofZ at (below .is-below .ensures) in
     let low = simp toZ-ofZ at (c .before .before .less-beyond .ensures) in
     let high = simp toZ-ofZ at (c .more-beyond .ensures) in (
-      simp (kinds .before .is-kind .ensures, kinds .is-kind2 .ensures, less, from .position-of .ensures),
+      simp (from .before .is-floored .ensures, less, from .position-of .ensures),
       simp (low, high, from .position-of .ensures, to .position-of2 .ensures),
     )
 
@@ -46,8 +42,7 @@ pub judge-step-spec : {M : Type 1} → statement M
 judge-step-spec =
     tie.close
     (tie.spec
-    is-kind-requires
-    is-kind-requires-2
+    is-floored-requires
     position-of-requires
     position-of-requires-2
     is-below-requires
