@@ -2,7 +2,7 @@
 use rules::LIMIT;
 ghost use mathlib.Core.Path.{_≡_};
 ghost use Rattle.rules.specs.Booking.{outOfRange};
-ghost use Rattle.booking.specs.Refusals.{bookRefusal, callRefusal};
+ghost use Rattle.booking.specs.Refusals.{bookRefusal};
 
 // 7 of a quantity, and of an amount paid in or out: "1 to 10^15".
 pub(crate) fn out_of_range(n: u64) -> bool
@@ -25,20 +25,4 @@ pub(crate) fn book_refusal(units: bool, cash: bool, beyond: bool) -> u8
         return 22;
     }
     0
-}
-
-// The first of 6, 7 and 10, else the number that comes after them.
-pub(crate) fn call_refusal(unknown: bool, range: bool, kind: bool, after: u8) -> u8
-    ensures { λ r. ⌜ r ≡ callRefusal unknown range kind after ⌝ }
-{
-    if unknown {
-        return 6;
-    }
-    if range {
-        return 7;
-    }
-    if kind {
-        return 10;
-    }
-    after
 }

@@ -1,6 +1,5 @@
 // Bring in and take out: one step between a participant account and the account against which its CSD holds the security.
 use crate::first_refusal::book_refusal;
-use crate::first_refusal::call_refusal;
 use crate::first_refusal::out_of_range;
 use crate::positions::move_units;
 use holdings::judging::judge_step;
@@ -62,11 +61,19 @@ fn contra_of(index: &[u16; INDEX], security: u8, csd: u8, account: u16, day: u16
 fn move_refusal(index: &[u16; INDEX], account: u16, security: u8, quantity: u64) -> u8
     ensures { λ r. ⌜ r ≡ firstOf (operandConditions (asked (now (index .entry))) account security quantity) ⌝ }
 {
-    let known = is_account(index, account);
-    let listed = is_security(index, security);
-    let range = out_of_range(quantity);
-    let participant = is_kind(index, account, PARTICIPANT);
-    call_refusal(!known | !listed, range, !participant, 0)
+    if !is_account(index, account) {
+        return 6;
+    }
+    if !is_security(index, security) {
+        return 6;
+    }
+    if out_of_range(quantity) {
+        return 7;
+    }
+    if !is_kind(index, account, PARTICIPANT) {
+        return 10;
+    }
+    0
 }
 
 // The step of a bring-in or take-out between the account and the other one.

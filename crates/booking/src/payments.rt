@@ -1,7 +1,5 @@
 // Pay in and pay out: they change a participant account's cash.
 use crate::cash::add_cents;
-use crate::first_refusal::book_refusal;
-use crate::first_refusal::call_refusal;
 use crate::first_refusal::out_of_range;
 use crate::numbers::signed;
 use holdings::cash::cash_short;
@@ -44,13 +42,22 @@ fn pay_beyond(cash: &[i64], incoming: bool, account: u16, amount: u64) -> bool
 fn pay_refusal(index: &[u16; INDEX], cash: &[i64], incoming: bool, account: u16, amount: u64) -> u8
     ensures { λ r. ⌜ r ≡ firstOf (payConditions (asked (now (index .entry))) (now (cash .entry)) (wayOf incoming) account amount) ⌝ }
 {
-    let known = is_account(index, account);
-    let range = out_of_range(amount);
-    let participant = is_kind(index, account, PARTICIPANT);
-    let short = pay_short(cash, incoming, account, amount);
-    let beyond = pay_beyond(cash, incoming, account, amount);
-    let booking = book_refusal(false, short, beyond);
-    call_refusal(!known, range, !participant, booking)
+    if !is_account(index, account) {
+        return 6;
+    }
+    if out_of_range(amount) {
+        return 7;
+    }
+    if !is_kind(index, account, PARTICIPANT) {
+        return 10;
+    }
+    if pay_short(cash, incoming, account, amount) {
+        return 21;
+    }
+    if pay_beyond(cash, incoming, account, amount) {
+        return 22;
+    }
+    0
 }
 
 // A pay-in or pay-out: judged, then booked.

@@ -4,33 +4,42 @@ use crate::first_refusal::book_refusal;
 use crate::positions::move_units;
 use chain::derivation::chain_of;
 use chain::step_list::STEP_NUMBERS;
-use chain::step_list::step_at;
 use halves::halves_refusal;
 use holdings::cash::cash_short;
 use holdings::cash::payment_beyond;
 use holdings::judging::judge_steps;
+use holdings::judging::steps_fit;
 use index::places::INDEX;
 use rules::Answer;
 use rules::Half;
+use rules::Step;
 ghost use mathlib.Core.Path.{_≡_};
 ghost use mathlib.Core.Bool.{false};
 ghost use Prim.Native.Nat.{_≤_};
+ghost use lib.ListN.{length};
 ghost use Rattle.rules.specs.Tests.{firstOf};
 ghost use Rattle.rules.specs.Chain.{stepLimit};
 ghost use Rattle.rules.specs.Booking.{limit, booked, unitsBeyond};
 ghost use Rattle.rules.specs.Calls.{bookConditions};
 ghost use Rattle.index.specs.Asked.{asked, askedOn};
-ghost use Rattle.chain.specs.StepList.{stepsIn};
+ghost use Rattle.chain.specs.StepList.{stepNumbers, stepsIn};
 ghost use Rattle.booking.specs.Settling.{Settles};
 
 // The first `count` steps of the list, once 22 lets them pass.
 fn book_steps(positions: &mut [i64], security: u8, quantity: u64, steps: &[u16], count: usize)
-    requires { ⌜ (quantity ≤ limit) × (count ≤ stepLimit) × (unitsBeyond (now positions) security quantity (stepsIn (now steps) count) ≡ false) ⌝ }
+    requires { ⌜ (quantity ≤ limit) × (length (now steps) ≡ stepNumbers) × (count ≤ stepLimit)
+        × (unitsBeyond (now positions) security quantity (stepsIn (now steps) count) ≡ false) ⌝ }
     ensures { λ _. ⌜ now (positions .exit) ≡ booked (stepsIn (now (steps .entry)) count) security quantity (now (positions .entry)) ⌝ }
 {
     let mut i: usize = 0;
     while i < count {
-        move_units(positions, security, quantity, step_at(steps, i));
+        let at = 3 * i;
+        let step = Step {
+            csd: (steps[at] % 256) as u8,
+            debited: steps[at + 1],
+            credited: steps[at + 2],
+        };
+        move_units(positions, security, quantity, step);
         i += 1;
     }
 }
@@ -51,14 +60,18 @@ fn judge_booking(
     let amount = delivering.amount;
     let payer = receiving.account;
     let payee = delivering.account;
-    let units = judge_steps(
-        index,
-        positions,
-        delivering.security,
-        delivering.quantity,
-        steps,
-        count,
-    );
+    let security = delivering.security;
+    let quantity = delivering.quantity;
+    if steps_fit(index, positions, security, quantity, steps, count) {
+        if cash_short(cash, payer, amount) {
+            return 21;
+        }
+        if payment_beyond(cash, payer, payee, amount) {
+            return 22;
+        }
+        return 0;
+    }
+    let units = judge_steps(index, positions, security, quantity, steps, count);
     let unpaid = cash_short(cash, payer, amount);
     let payment = payment_beyond(cash, payer, payee, amount);
     book_refusal(units.short, unpaid, units.beyond | payment)

@@ -6,6 +6,7 @@ use native.Mathlib.Omega.{arith}
 use lib.ListN.{length}
 use Rattle.rules.specs.Booking.{booked}
 use Rattle.chain.specs.StepList.{stepsIn}
+use Rattle.chain.proofs.StepList.{step-here}
 use Rattle.booking.proofs.Listed.{booked-none, booked-more, next-room}
 use Rattle.booking.proofs.settling.book_steps.Statement.{statement}
 use Rattle.booking.proofs.settling.book_steps.Tie as tie
@@ -22,17 +23,44 @@ loop-holds c =
     let a = c .before .args in
     (search needs, refl, booked-none (a .steps .now) (a .security) (a .quantity) (a .positions .now))
 
-step-at-requires : tie.Need-step-at-requires Inv-loop μ-loop
-step-at-requires c κs = search needs
+mul-at : tie.Need-mul-at Inv-loop μ-loop
+mul-at c = search needs
+
+mul-t10 : tie.Need-mul-t10 Inv-loop μ-loop
+mul-t10 c = search needs
+
+shared-slice-read-t12 : tie.Need-shared-slice-read-t12 Inv-loop μ-loop
+shared-slice-read-t12 c = search needs
+
+cast-t14 : tie.Need-cast-t14 Inv-loop μ-loop
+cast-t14 c = search needs
+
+add-t15 : tie.Need-add-t15 Inv-loop μ-loop
+add-t15 c = search needs
+
+mul-t16 : tie.Need-mul-t16 Inv-loop μ-loop
+mul-t16 c = search needs
+
+shared-slice-read-t18 : tie.Need-shared-slice-read-t18 Inv-loop μ-loop
+shared-slice-read-t18 c = search needs
+
+add-t19 : tie.Need-add-t19 Inv-loop μ-loop
+add-t19 c = search needs
+
+mul-t20 : tie.Need-mul-t20 Inv-loop μ-loop
+mul-t20 c = search needs
+
+shared-slice-read-t22 : tie.Need-shared-slice-read-t22 Inv-loop μ-loop
+shared-slice-read-t22 c = search needs
 
 move-units-requires : tie.Need-move-units-requires Inv-loop μ-loop
 move-units-requires c κs =
-    let l = c .before .before .before in
+    let l = c .before .before .before .before .before in
     let s = l .before .before in
     let a = s .args in
     let free = next-room (a .steps .now) (l .loop .i) (a .security) (a .quantity) (a .positions .now) (a .count)
-    (s .pre .0) (s .pre .1) (omega arith) (s .pre .2) in
-    (s .pre .0, rw (l .loop .inv .2, c .step-at .ensures) free)
+    (s .pre .0) (s .pre .2) (omega arith) (s .pre .3) in
+    (s .pre .0, rw (l .loop .inv .2) (rw (step-here (a .steps .now) (l .loop .i) (s .pre .1) (omega arith)) at free))
 
 add-i : tie.Need-add-i Inv-loop μ-loop
 add-i c = search needs
@@ -43,11 +71,14 @@ loop-less c = search needs
 loop-again : tie.Need-loop-again Inv-loop μ-loop
 loop-again c =
     let moved = c .before in
-    let l = moved .before .before .before .before in
+    let l = moved .before .before .before .before .before .before in
     let s = l .before .before in
     let a = s .args in
-    let e = rw (moved .before .step-at .ensures, l .loop .inv .2) at (moved .move-units .ensures) in
-    (omega arith, moved .move-units .kept .0 ∙ l .loop .inv .1, e ∙ booked-more (a .steps .now) (l .loop .i) (a .security) (a .quantity) (a .positions .now))
+    let more = booked-more (a .steps .now) (l .loop .i) (a .security) (a .quantity) (a .positions .now) in (
+      omega arith,
+      moved .move-units .kept .0 ∙ l .loop .inv .1,
+      rw (l .loop .inv .2) at (moved .move-units .ensures) ∙ rw (step-here (a .steps .now) (l .loop .i) (s .pre .1) (omega arith)) at more,
+    )
 
 same-length : tie.Need-same-length Inv-loop μ-loop
 same-length c = c .before .loop .inv .1
@@ -65,7 +96,16 @@ book-steps-spec =
     Inv-loop
     μ-loop
     loop-holds
-    step-at-requires
+    mul-at
+    mul-t10
+    shared-slice-read-t12
+    cast-t14
+    add-t15
+    mul-t16
+    shared-slice-read-t18
+    add-t19
+    mul-t20
+    shared-slice-read-t22
     move-units-requires
     add-i
     loop-less

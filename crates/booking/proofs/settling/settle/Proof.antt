@@ -76,7 +76,7 @@ book-steps-requires c κs =
     let ranged = halves-ranged k (a .delivering) (a .receiving) (a .unknown) (a .same) (sym (halves .halves-refusal .ensures ∙ halves-on (a .index .now) (a .day) (a .delivering) (a .receiving) (a .unknown) (a .same)) ∙ chain .before .before .if2 .left) in
     let passes = booking-open k (a .positions .now) (a .cash .now) (a .delivering) (a .receiving) (a .unknown) (a .same) (stepsIn (found .last .1 .1 .1 .1 .0) (found .result .count))
     (sym (judged .judge-booking .ensures ∙ book-on (a .index .now) (a .day) (a .positions .now) (a .cash .now) (a .delivering) (a .receiving) (stepsIn (found .last .1 .1 .1 .1 .0) (found .result .count))) ∙ passed .if4 .left) in
-    (ranged .0, found .ensures .few, passes .0)
+    (ranged .0, found .kept .1 .1 .1 .1 .0 ∙ halves .before .if1 .left, found .ensures .few, passes .0)
 
 pay-requires : tie.Need-pay-requires
 pay-requires c κs =
