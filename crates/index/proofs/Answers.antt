@@ -8,7 +8,7 @@ use mathlib.Core.Option.{Option, none, some}
 use native.Mathlib.Omega.{arith}
 use lib.Dec.{eqb, ltb, leb}
 use lib.ListN.{length, take, getElem?, List·getD-eq-default}
-use borrow.Author.Tests.{ltb-false, lt-ltb, le-ltb, ne-eqb}
+use borrow.Author.Tests.{ltb-false, lt-ltb, ne-eqb}
 use Rattle.rules.specs.declared.Account.{Account}
 use Rattle.rules.specs.declared.Pair.{Pair}
 use Rattle.rules.specs.declared.Link.{Link}
@@ -37,7 +37,7 @@ use Rattle.index.proofs.LinkList.{links-on, walked-all}
 -- ---- from a code to the answer
 home-by : (o : Option Account) → ((x : Account) → o ≡ some x → x .csd < csdLimit) → homeBy (homeCode o) ≡ csdOf o
 home-by none small = refl
-home-by (some x) small = rw (ne-eqb (x .csd + 1) 0 (λ e. omega (arith, e)), le-ltb 256 (x .csd + 1) (omega (arith, small x refl))) (omega arith)
+home-by (some x) small = omega (arith, small x refl)
 
 -- the codes of a duo compared with those of x
 duo-by : (x p : Pair)

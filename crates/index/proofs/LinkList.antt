@@ -6,9 +6,9 @@ use mathlib.Core.Bool.{Bool, true, false, cond}
 use mathlib.Core.List.{List, [], _∷_, _++_, reverse, reverse-cons, List·Memᴰ, List·Memᴰ·head, List·Memᴰ·tail}
 use mathlib.Core.Option.{Option, some}
 use native.Mathlib.Omega.{arith}
-use native.Mathlib.Nat.{min-eq-left}
+use native.Mathlib.Nat.{min-eq-left, mod-eq-of-lt}
 use lib.ListN.{length, take, getElem?, length-reverse, length-take}
-use borrow.Author.Tests.{lt-ltb, le-ltb}
+use borrow.Author.Tests.{lt-ltb}
 use Rattle.rules.specs.declared.Link.{Link}
 use Rattle.rules.specs.Tests.{only}
 use Rattle.rules.specs.Directory.{linkLimit, covers, isLink, linksOf, linksFor}
@@ -110,7 +110,7 @@ module _ (l : List ℕ) (ls : List Link) (few : length ls ≤ linkLimit)
     unfolding linkIn
     link-read p =
         let of = says-link s c x .holds p in
-        let technical : technicalBy (numberAt l (rowAt n + technicalNumber)) ≡ x .technical = ap technicalBy (number technicalNumber (omega arith)) ∙ rw (le-ltb 0xff (x .technical) (small x (is-row ls n x e))) in
+        let technical : technicalBy (numberAt l (rowAt n + technicalNumber)) ≡ x .technical = ap technicalBy (number technicalNumber (omega arith)) ∙ mod-eq-of-lt (omega (arith, small x (is-row ls n x e))) in
         let kind = number kindNumber (omega arith) in
         let flag = number flagNumber (omega arith) in
         let account = number accountNumber (omega arith) in

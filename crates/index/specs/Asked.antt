@@ -1,7 +1,7 @@
 -- The questions of the rules, put to a list of numbers that stand where an index has them. Whatever the list, each has its answer; where the list is the
 -- index of a directory, it is the directory's. Assumes nothing.
 use mathlib.Core.Path.{_≡_}
-use Prim.Native.Nat.{ℕ, zero, suc, _+_, _-_}
+use Prim.Native.Nat.{ℕ, zero, suc, _+_, _-_, _%_}
 use mathlib.Core.Bool.{Bool, true, false, not, _&&_, _||_, cond}
 use mathlib.Core.List.{List, [], _∷_}
 use mathlib.Core.Option.{Option, none, some}
@@ -10,7 +10,7 @@ use Rattle.rules.specs.declared.Pair.{Pair}
 use Rattle.rules.specs.declared.Link.{Link}
 use Rattle.rules.specs.declared.Directory.{Directory}
 use Rattle.rules.specs.Tests.{any, find, only}
-use Rattle.rules.specs.Directory.{rowsOf, rowsOn, covers, issues, defaults, pointsTo, csdLimit, securityLimit, accountLimit, pairLimit, linkLimit, noCsd}
+use Rattle.rules.specs.Directory.{rowsOf, rowsOn, covers, issues, defaults, pointsTo, csdLimit, securityLimit, accountLimit, pairLimit, linkLimit}
 use Rattle.rules.specs.Lookups.{Lookups, technicalOf, accountOf, ask}
 use Rattle.index.specs.Index.{Indexed, Place, csdCount, securityCount, accountCount, pairCount, linkCount, typeAt, homeAt, kindAt, mirrorAt, omnibusAt, investorAt, technicalAt, servedAt, newestAt, targetAt, linkAt, nextNumber, firstNumber, lastNumber, kindNumber, flagNumber, technicalNumber, accountNumber, linkNumbers, lastRow, placeOf, numberAt}
 
@@ -37,9 +37,9 @@ has (linkAt n f) = ltb n linkLimit && ltb f linkNumbers
 unfoldable pub read : List ℕ → Place → ℕ
 read l p = cond (has p) (numberAt l (placeOf p)) 0
 
--- a CSD by its code
+-- a CSD by its code, which is one more: a byte, and hex FF for no row
 abbrev pub homeBy : ℕ → ℕ
-homeBy code = cond (eqb code 0) noCsd (cond (ltb 256 code) noCsd (code - 1))
+homeBy code = (code + 0xff) % 256
 
 -- the account stands in the books of this CSD
 abbrev pub booksIn : List ℕ → ℕ → ℕ → Bool
@@ -56,9 +56,9 @@ duoIs l a x =
     (eqb (read l (mirrorAt a)) (x .mirror + 1) && eqb (read l (omnibusAt a)) (x .omnibus))
     && (eqb (read l (investorAt a)) (x .investor) && eqb (read l (technicalAt a)) (x .technical))
 
--- a technical issuer by its number
+-- a technical issuer by its number, which is a byte
 abbrev pub technicalBy : ℕ → ℕ
-technicalBy n = cond (ltb 0xff n) noCsd n
+technicalBy n = n % 256
 
 -- the link whose numbers begin at the place p, read as one of the CSD c for the security s
 unfoldable pub linkIn : List ℕ → ℕ → ℕ → ℕ → Link

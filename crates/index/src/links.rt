@@ -14,7 +14,6 @@ use crate::places::TECHNICAL;
 use rules::CSDS;
 use rules::Link;
 use rules::NO_ACCOUNT;
-use rules::NO_CSD;
 use rules::SECURITIES;
 ghost use mathlib.Core.Path.{_≡_};
 ghost use mathlib.Core.Bool.{_&&_, cond};
@@ -81,16 +80,12 @@ fn older_link(index: &[u16; INDEX], link: u16) -> u16
     if next < link { next } else { 0 }
 }
 
-// The technical issuer of a link, hex FF beyond the bytes.
+// The technical issuer of a link.
 fn technical_of(index: &[u16; INDEX], link: u16) -> u8
     requires { ⌜ link ≤ lastRow ⌝ }
     ensures { λ r. ⌜ r ≡ technicalBy (numberAt (now (index .entry)) (link + technicalNumber)) ⌝ }
 {
-    let number = number_at(index, link, TECHNICAL);
-    if 0xff < number {
-        return NO_CSD;
-    }
-    number as u8
+    (number_at(index, link, TECHNICAL) % 256) as u8
 }
 
 // Whether the link is valid on the day; both ends are included.

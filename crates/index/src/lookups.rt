@@ -17,7 +17,6 @@ use crate::places::entry;
 use rules::ACCOUNTS;
 use rules::CSDS;
 use rules::LINKS;
-use rules::NO_CSD;
 use rules::PAIRS;
 use rules::Pair;
 ghost use mathlib.Core.Path.{_≡_};
@@ -117,14 +116,8 @@ pub fn is_account(index: &[u16; INDEX], account: u16) -> bool
 pub fn home_of(index: &[u16; INDEX], account: u16) -> u8
     ensures { λ r. ⌜ r ≡ asked (now (index .entry)) .home account ⌝ }
 {
-    let code = home_code(index, account);
-    if code == 0 {
-        return NO_CSD;
-    }
-    if 256 < code {
-        return NO_CSD;
-    }
-    (code - 1) as u8
+    let code = home_code(index, account) as u32;
+    ((code + 0xff) % 256) as u8
 }
 
 // Whether the account stands in the books of this CSD.

@@ -1,5 +1,4 @@
 -- The code is one more than the CSD, which is a byte.
-use borrow.Author.Tests.{lt-ltb, le-ltb, ne-eqb}
 use Rattle.index.specs.Asked.{askedBy}
 use borrow.Author.Needs.{needs}
 use Rattle.index.proofs.lookups.home_of.Statement.{statement}
@@ -8,28 +7,18 @@ use Rattle.index.proofs.lookups.home_of.Tie as tie
 home-code-requires : tie.Need-home-code-requires
 home-code-requires c κs = search needs
 
-returns : tie.Need-returns
-unfolding askedBy
-returns c = rw (← c .before .home-code .ensures, c .if1 .taken)
+cast-code : tie.Need-cast-code
+cast-code c = search needs
 
-returns-2 : tie.Need-returns-2
-unfolding askedBy
-returns-2 c =
-    let n = c .before .before .home-code .result in
-    rw (← c .before .before .home-code .ensures, ne-eqb n 0 (c .before .if1 .left), lt-ltb 256 n (c .if2 .taken))
-
-sub-result : tie.Need-sub-result
-sub-result c = search needs
+add-result : tie.Need-add-result
+add-result c = search needs
 
 cast-result : tie.Need-cast-result
 cast-result c = search needs
 
-returns-3 : tie.Need-returns-3
+returns : tie.Need-returns
 unfolding askedBy
-returns-3 c =
-    let n = c .before .before .home-code .result in
-    rw (← c .before .before .home-code .ensures, ne-eqb n 0 (c .before .if1 .left), le-ltb 256 n (c .if2 .left))
+returns c = rw (c .home-code .ensures)
 
 pub home-of-spec : {M : Type 1} → statement M
-home-of-spec =
-    tie.close (tie.spec home-code-requires returns returns-2 sub-result cast-result returns-3)
+home-of-spec = tie.close (tie.spec home-code-requires cast-code add-result cast-result returns)
