@@ -16,9 +16,9 @@ use Rattle.rules.specs.declared.Directory.{Directory}
 use Rattle.rules.specs.Tests.{any, find, only, isRow, isFull}
 use Rattle.rules.specs.Directory.{Rows, rowsOf, csdLimit, securityLimit, accountLimit, pairLimit, linkLimit, external, isKind, inBooks, serves, sameDuo, pairOf, isServed, isApart, noCsd, onDay, rowsOn, covers, issues, defaults, pointsTo, isLink, linksOf, linksFor, hasIssuer, hasLinkTo, issuerLink, defaultLink}
 use Rattle.rules.specs.Lookups.{ask, technicalOf, accountOf, csdOf, homeOf, issuance}
-use Rattle.rules.proofs.Basics.{impossible, clash, untrue, and-second, or-left, or-right, or-cases, eqb-is, any-true, any-some, none-any, find-some, find-none}
+use Rattle.rules.proofs.Basics.{impossible, clash, untrue, and-second, and-true, eqb-true, eqb-is, any-true, any-some, none-any, find-some, find-none}
 use Rattle.rules.proofs.FirstRow.{none-found, only-found}
-use Rattle.rules.proofs.Facts.{Facts}
+use Rattle.rules.proofs.Facts.{Facts, LinkFacts}
 use Rattle.rules.proofs.RowTests.{says-link, says-defaults, says-points}
 use Rattle.rules.proofs.Days.{in-only, in-reverse, in-links}
 use Rattle.rules.proofs.Accounts.{security-small}
@@ -86,13 +86,30 @@ module _ (r : Rows) (F : Facts r) (s c : ℕ) where
   neither : (x : Link) → issues x ≡ true → defaults x ≡ true → ⊥
   neither x e f = let a : x .kind ≡ 0 = eqb-is (x .kind) 0 e in let b : x .kind ≡ 1 = says-defaults x .holds f .0 in omega arith
 
+  kinds : (x : Link) → List·Memᴰ x ls → LinkFacts r x
+  kinds x m = F .links x (in-links (r .links) s c x m .entered)
+
+  issuer-leads : (x : Link) → List·Memᴰ x ls → issues x ≡ true → leads x ≡ true
+  issuer-leads x m i = eqb-true (x .flag) 1 (kinds x m .issuer (eqb-is (x .kind) 0 i) .flag)
+
+  default-leads : (x : Link) → defaults x ≡ true → leads x ≡ true
+  default-leads x d = eqb-true (x .flag) 1 (says-defaults x .holds d .1)
+
+  -- a link that leads is the one or the other
+  leads-else : (x : Link) → List·Memᴰ x ls → leads x ≡ true → issues x ≡ false → defaults x ≡ true
+  leads-else x m p i =
+      elim (kinds x m .kind) [
+        | inl z ↦ clash (issues x) (eqb-true (x .kind) 0 z) i
+        | inr z ↦ and-true (eqb (x .kind) 1) (eqb (x .flag) 1) (eqb-true (x .kind) 1 z) p
+      ]
+
   -- none is found, or an issuer link, or a default link
   lead-issuer : asIssuer (find leads ls) ≡ issuerLink (r .links) s c
   unfolding issuerLink
   lead-issuer = go (find leads ls) refl
     where
       go : (o : Option Link) → find leads ls ≡ o → asIssuer o ≡ find issues ls
-      go none e = sym (none-found issues ls (λ x m i. clash (leads x) (or-left (issues x) (defaults x) i) (find-none leads ls e x m)))
+      go none e = sym (none-found issues ls (λ x m i. clash (leads x) (issuer-leads x m i) (find-none leads ls e x m)))
       go (some x) e = let f = find-some leads ls x e in at x (f .0) (issues x) refl
         where
           at : (x : Link) → List·Memᴰ x ls → (b : Bool) → issues x ≡ b → cond b (some x) none ≡ find issues ls
@@ -104,13 +121,13 @@ module _ (r : Rows) (F : Facts r) (s c : ℕ) where
   lead-default = go (find leads ls) refl
     where
       go : (o : Option Link) → find leads ls ≡ o → asDefault o ≡ find defaults ls
-      go none e = sym (none-found defaults ls (λ x m i. clash (leads x) (or-right (issues x) (defaults x) i) (find-none leads ls e x m)))
+      go none e = sym (none-found defaults ls (λ x m i. clash (leads x) (default-leads x i) (find-none leads ls e x m)))
       go (some x) e = let f = find-some leads ls x e in at x (f .0) (f .1) (issues x) refl
         where
           at : (x : Link) → List·Memᴰ x ls → leads x ≡ true → (b : Bool) → issues x ≡ b → cond b none (some x) ≡ find defaults ls
           at x m p true i = sym (none-found defaults ls (λ y n j. neither y (rw (← (one-issuer x y m n i)) i) j))
           at x m p false i =
-              let d : defaults x ≡ true = elim (or-cases (issues x) (defaults x) p) [ inl z ↦ clash (issues x) z i | inr z ↦ z ] in
+              let d = leads-else x m p i in
               sym (only-found defaults ls x m d (λ y n j. one-default y x n m j d))
 
 no-link : (s c : ℕ) (ls : List Link) → ((k : Link) → List·Memᴰ k ls → (k .security < securityLimit) × (k .csd < csdLimit))

@@ -95,9 +95,9 @@ linksAt l s c = linksFrom l s c (read l (newestAt s c)) (read l (newestAt s c))
 abbrev pub isTarget : List ℕ → ℕ → ℕ → Bool
 isTarget l s t = not (eqb (read l (targetAt s t)) 0)
 
--- an issuer link or a default link: on a day a CSD has one of them at most for a security
+-- an issuer link, which "has .. flag 1", or a default link: on a day a CSD has one of them at most for a security
 abbrev pub leads : Link → Bool
-leads x = issues x || defaults x
+leads x = eqb (x .flag) 1
 
 -- such a link, where it is an issuer link
 abbrev pub asIssuer : Option Link → Option Link

@@ -178,11 +178,7 @@ fn leads_on(index: &[u16; INDEX], link: u16, day: u16) -> bool
     if !is_valid(index, link, day) {
         return false;
     }
-    let kind = number_at(index, link, KIND);
-    if kind == 0 {
-        return true;
-    }
-    (kind == 1) & (number_at(index, link, FLAG) == 1)
+    number_at(index, link, FLAG) == 1
 }
 
 // Whether the link is an investor link to the technical issuer on the day.

@@ -1,5 +1,4 @@
--- Past the days, by kind and flag.
-use borrow.Author.Tests.{eq-eqb, ne-eqb}
+-- Past the days, by the flag.
 use Rattle.rules.proofs.Basics.{unnot, unnot-false}
 use Rattle.index.specs.Asked.{linkIn}
 use borrow.Author.Needs.{needs}
@@ -18,26 +17,8 @@ number-at-requires c κs = search needs
 returns-2 : tie.Need-returns-2
 unfolding linkIn
 returns-2 c =
-    let v = c .before .before .before in
-    rw (← v .is-valid .ensures, unnot-false (v .is-valid .result) (c .before .before .if1 .left), ← c .before .number-at .ensures, eq-eqb (c .before .number-at .result) 0 (c .if2 .taken))
-
-number-at-requires-2 : tie.Need-number-at-requires-2
-number-at-requires-2 c κs = search needs
-
-returns-3 : tie.Need-returns-3
-unfolding linkIn
-returns-3 c =
-    let k = c .before .before in
-    let v = k .before .before in
-    rw (← v .is-valid .ensures, unnot-false (v .is-valid .result) (k .before .if1 .left), ← k .number-at .ensures, ne-eqb (k .number-at .result) 0 (c .before .if2 .left), ← c .number-at2 .ensures)
+    let v = c .before .before in
+    rw (← v .is-valid .ensures, unnot-false (v .is-valid .result) (c .before .if1 .left), ← c .number-at .ensures)
 
 pub leads-on-spec : {M : Type 1} → statement M
-leads-on-spec =
-    tie.close
-    (tie.spec
-    is-valid-requires
-    returns
-    number-at-requires
-    returns-2
-    number-at-requires-2
-    returns-3)
+leads-on-spec = tie.close (tie.spec is-valid-requires returns number-at-requires returns-2)
