@@ -15,7 +15,7 @@ use Rattle.rules.specs.declared.Answer.{Answer}
 use Rattle.rules.specs.declared.Answer.the-variants.{Accepted, Refused}
 use Rattle.rules.specs.declared.Entered.{Entered}
 use Rattle.rules.specs.Tests.{firstOf}
-use Rattle.rules.specs.Directory.{rowsOf, csdLimit, linkLimit, noAccount}
+use Rattle.rules.specs.Directory.{rowsOf, csdLimit, accountLimit, linkLimit, noAccount}
 use Rattle.rules.specs.Entries.{Row, csdRow, securityRow, accountRow, pairRow, linkRow, rowConditions, addRow}
 use Rattle.index.specs.Index.{Place, csdCount, securityCount, accountCount, pairCount, linkCount, placeOf, types, homes, kinds, mirrors, omnibuses, investors, technicals, served, newest, targets, links, nextNumber, firstNumber, lastNumber, kindNumber, flagNumber, technicalNumber, accountNumber, linkNumbers, rowAt, numberAt, withNumber}
 use Rattle.identifiers.specs.Names.{bicSize, isinSize, isins, withBytes}
@@ -62,7 +62,7 @@ withDuo x a l =
 -- a pair: its first account, by technical issuer and account served, and the duo of its accounts
 unfoldable pub withPair : Pair → List ℕ → List ℕ
 withPair x l =
-    counted pairCount (withDuo x (x .omnibus) (withDuo x (x .mirror) (withNumber l (served + (x .served * csdLimit + x .technical)) (oneMore (x .mirror)))))
+    counted pairCount (withDuo x (x .omnibus) (withDuo x (x .mirror) (withNumber l (served + (x .technical * accountLimit + x .served)) (oneMore (x .mirror)))))
 
 -- where the numbers of link n begin, 0 behind the last that an index has
 abbrev pub rowFor : ℕ → ℕ

@@ -34,6 +34,7 @@ use refusals::csd_refusal;
 use refusals::link_refusal;
 use refusals::pair_refusal;
 use refusals::security_refusal;
+use rules::ACCOUNTS;
 use rules::Account;
 use rules::Answer;
 use rules::CSDS;
@@ -120,7 +121,7 @@ fn add_duo(index: &mut [u16; INDEX], row: Pair, account: u16)
 pub fn add_pair(index: &mut [u16; INDEX], row: Pair)
     ensures { λ _. ⌜ now (index .exit) ≡ withPair row (now (index .entry)) ⌝ }
 {
-    let place = (row.served as usize) * CSDS + (row.technical as usize);
+    let place = (row.technical as usize) * ACCOUNTS + (row.served as usize);
     store(index, SERVED + place, one_more(row.mirror));
     add_duo(index, row, row.mirror);
     add_duo(index, row, row.omnibus);

@@ -5,6 +5,7 @@ use mathlib.Core.Logic.{inl, inr}
 use mathlib.Core.Bool.{Bool, true, false, not, _&&_, cond, and-false, true≢false}
 use mathlib.Core.List.{List, [], _∷_, reverse, List·Memᴰ, List·Memᴰ·head, List·Memᴰ·tail}
 use mathlib.Core.Option.{Option, none, some}
+use native.Mathlib.Nat.{mod-eq-of-lt}
 use native.Mathlib.Omega.{arith}
 use lib.Dec.{eqb, ltb, leb}
 use lib.ListN.{length, take, getElem?, List·getD-eq-default}
@@ -21,7 +22,7 @@ use Rattle.rules.proofs.FirstRow.{none-found, only-found}
 use Rattle.rules.proofs.Facts.{Facts, LinkFacts}
 use Rattle.rules.proofs.RowTests.{says-link, says-defaults, says-points}
 use Rattle.rules.proofs.Days.{in-only, in-reverse, in-links}
-use Rattle.rules.proofs.Accounts.{security-small}
+use Rattle.rules.proofs.Accounts.{security-small, books-small}
 use Rattle.rules.proofs.Soundness.{sound-gives, sound-links, few-links}
 use Rattle.rules.proofs.Pairs.{found-pair}
 use Rattle.index.specs.Index.{Indexed, Place, csdCount, securityCount, accountCount, pairCount, linkCount, typeAt, homeAt, kindAt, mirrorAt, omnibusAt, investorAt, technicalAt, servedAt, newestAt, targetAt, linkAt, linkNumbers, rowAt, numberAt, placeOf, newestCode, makesTarget, numbersOf, linkCode, indexOf, typeCode, homeCode, duoOf, servedRow, mirrorCode, omnibusCode, investorCode, technicalCode}
@@ -257,8 +258,9 @@ module _ {l : List ℕ} {d : Directory} (h : Indexed l d) where
       let f = found-served (r .pairs) t a p e in
       let g = found-pair (r .pairs) i t a p (sym (triplet-row q (facts h) i t a b) ∙ e) in
       let d = beside q (facts h) p (f .0) in
+      let b : p .mirror < accountLimit = books-small q (facts h) (p .mirror) (p .investor) (facts h .pairs p (f .0) .mirrorBooks) in
       let m : p .mirror + 1 - 1 ≡ p .mirror = omega arith in
-      rw (ne-eqb (p .mirror + 1) 0 (λ q. omega (arith, q)), m, reads (omnibusAt (p .mirror)), d .1, d .2, ← (g .1), ← (g .2), ← (g .3))
+      rw (ne-eqb (p .mirror + 1) 0 (λ q. omega (arith, q)), m, mod-eq-of-lt b, reads (omnibusAt (p .mirror)), d .1, d .2, ← (g .1), ← (g .2), ← (g .3))
 
   pair-told : (i t a : ℕ) → cond (booksIn l a i) (pairBy l i t a (read l (servedAt t a))) none ≡ pairOf (r .pairs) i t a
   pair-told i t a = rw (in-books a i, reads (servedAt t a)) (go (inBooks (r .accounts) a i) refl)

@@ -9,7 +9,7 @@ use lib.Dec.{ltb}
 use lib.ListN.{length, getD, length-set}
 use lib.Seq.{getD-set-same, getD-set-other}
 use borrow.Author.Tests.{lt-ltb, le-ltb}
-use Rattle.rules.specs.Directory.{csdLimit}
+use Rattle.rules.specs.Directory.{csdLimit, accountLimit}
 use Rattle.index.specs.Index.{Place, csdCount, securityCount, accountCount, pairCount, linkCount, typeAt, homeAt, kindAt, mirrorAt, omnibusAt, investorAt, technicalAt, servedAt, newestAt, targetAt, linkAt, linkNumbers, Inside, placeOf, types, homes, kinds, mirrors, omnibuses, investors, technicals, served, newest, targets, links, indexSize, numberAt, withNumber}
 
 -- ---- the number of a place tells the place
@@ -45,7 +45,7 @@ placeAt n =
     (cond (ltb n omnibuses) (mirrorAt (n - mirrors)) (omnibusAt (n - omnibuses)))
     (cond (ltb n technicals) (investorAt (n - investors)) (technicalAt (n - technicals))))
     (cond (ltb n newest)
-    (servedAt ((n - served) % csdLimit) ((n - served) / csdLimit))
+    (servedAt ((n - served) / accountLimit) ((n - served) % accountLimit))
     (cond (ltb n targets)
     (newestAt ((n - newest) / csdLimit) ((n - newest) % csdLimit))
     (cond (ltb n links)
@@ -87,8 +87,10 @@ told (technicalAt a) i =
     let n : ℕ = technicals + a in
     rw (le-ltb n mirrors (omega arith), lt-ltb n served (omega arith), le-ltb n investors (omega arith), le-ltb n technicals (omega arith)) (ap technicalAt (omega arith))
 told (servedAt t a) i =
-    let n : ℕ = served + (a * csdLimit + t) in
-    rw (le-ltb n mirrors (omega arith), le-ltb n served (omega arith), lt-ltb n newest (omega arith), line served a t (i .0), column served a t (i .0))
+    let n : ℕ = served + (t * accountLimit + a) in
+    let row : (served + (t * accountLimit + a) - served) / accountLimit ≡ t = omega arith in
+    let account : (served + (t * accountLimit + a) - served) % accountLimit ≡ a = omega arith in
+    rw (le-ltb n mirrors (omega arith), le-ltb n served (omega arith), lt-ltb n newest (omega arith), row, account)
 told (newestAt s c) i =
     let n : ℕ = newest + (s * csdLimit + c) in
     rw (le-ltb n mirrors (omega arith), le-ltb n served (omega arith), le-ltb n newest (omega arith), lt-ltb n targets (omega arith), line newest s c (i .1), column newest s c (i .1))

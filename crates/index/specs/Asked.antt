@@ -45,10 +45,10 @@ homeBy code = (code + 0xff) % 256
 abbrev pub booksIn : List ℕ → ℕ → ℕ → Bool
 booksIn l a c = eqb (read l (homeAt a)) (c + 1)
 
--- a pair row by its first account: the second is the one that stands in a duo with it
+-- a pair row by its first account, which is of the table: the second is the one that stands in a duo with it
 abbrev pub pairBy : List ℕ → ℕ → ℕ → ℕ → ℕ → Option Pair
 pairBy l i t a code =
-    cond (eqb code 0) none (some (record { investor = i; technical = t; mirror = code - 1; omnibus = read l (omnibusAt (code - 1)); served = a }))
+    cond (eqb code 0) none (some (record { investor = i; technical = t; mirror = code - 1; omnibus = read l (omnibusAt ((code - 1) % accountLimit)); served = a }))
 
 -- the duo of the account a is that of x
 abbrev pub duoIs : List ℕ → ℕ → Pair → Bool

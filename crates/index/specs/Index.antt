@@ -137,7 +137,7 @@ abbrev pub served : ℕ
 served = technicals + accountLimit
 
 abbrev pub newest : ℕ
-newest = served + accountLimit * csdLimit
+newest = served + csdLimit * accountLimit
 
 abbrev pub targets : ℕ
 targets = newest + securityLimit * csdLimit
@@ -239,7 +239,7 @@ placeOf (mirrorAt a) = mirrors + a
 placeOf (omnibusAt a) = omnibuses + a
 placeOf (investorAt a) = investors + a
 placeOf (technicalAt a) = technicals + a
-placeOf (servedAt t a) = served + (a * csdLimit + t)
+placeOf (servedAt t a) = served + (t * accountLimit + a)
 placeOf (newestAt s c) = newest + (s * csdLimit + c)
 placeOf (targetAt s t) = targets + (s * csdLimit + t)
 placeOf (linkAt n f) = links + (n * linkNumbers + f)

@@ -20,9 +20,9 @@ use rules::LINKS;
 use rules::PAIRS;
 use rules::Pair;
 ghost use mathlib.Core.Path.{_≡_};
-ghost use Prim.Native.Nat.{_<_};
+ghost use Prim.Native.Nat.{_%_, _<_};
 ghost use lib.Dec.{leb};
-ghost use Rattle.rules.specs.Directory.{linkLimit};
+ghost use Rattle.rules.specs.Directory.{accountLimit, linkLimit};
 ghost use Rattle.rules.specs.Lookups.{isAccountOf};
 ghost use Rattle.index.specs.Index.{linkCount, typeAt, homeAt, kindAt, omnibusAt, servedAt};
 ghost use Rattle.index.specs.Asked.{read, duoIs, asked};
@@ -180,17 +180,14 @@ fn served_code(index: &[u16; INDEX], technical: u8, served: u16) -> u16
     if ACCOUNTS <= a {
         return 0;
     }
-    entry(index, SERVED + (a * CSDS + t))
+    entry(index, SERVED + (t * ACCOUNTS + a))
 }
 
-// The account that stands in a duo with the account in the investor's books.
+// The account that stands in a duo with the account in the investor's books, which is of the table.
 fn omnibus_beside(index: &[u16; INDEX], mirror: u16) -> u16
-    ensures { λ r. ⌜ r ≡ read (now (index .entry)) (omnibusAt mirror) ⌝ }
+    ensures { λ r. ⌜ r ≡ read (now (index .entry)) (omnibusAt (mirror % accountLimit)) ⌝ }
 {
-    let a = mirror as usize;
-    if ACCOUNTS <= a {
-        return 0;
-    }
+    let a = (mirror as usize) % ACCOUNTS;
     entry(index, OMNIBUSES + a)
 }
 

@@ -34,11 +34,11 @@ pub const INVESTORS: usize = OMNIBUSES + ACCOUNTS;
 
 pub const TECHNICALS: usize = INVESTORS + ACCOUNTS;
 
-// By account served and technical issuer: one more than the account in the investor's books, 0 for no row.
+// By technical issuer and account served: one more than the account in the investor's books, 0 for no row.
 pub const SERVED: usize = TECHNICALS + ACCOUNTS;
 
 // By security and CSD: where their newest link stands, 0 for none.
-pub const NEWEST: usize = SERVED + ACCOUNTS * CSDS;
+pub const NEWEST: usize = SERVED + CSDS * ACCOUNTS;
 
 // By security and CSD: 1 where an investor link for the security has it as technical issuer, else 0.
 pub const TARGETS: usize = NEWEST + SECURITIES * CSDS;
