@@ -1,5 +1,6 @@
 pub mod Obeying
 pub mod Telling
+pub mod Table
 pub mod CallKinds
 pub mod Entered
 pub mod Keeping

@@ -4,6 +4,7 @@ use Prim.Native.Nat.{ℕ, _+_, _-_}
 use native.Mathlib.Numerals.{add-one}
 use mathlib.Core.List.{List, [], _∷_, _++_, append-nil}
 use lib.ListN.{length, take, drop}
+use Rattle.rules.specs.declared.Step.{Step}
 use Rattle.rules.specs.declared.Answer.{Answer}
 use Rattle.rules.specs.declared.Answer.the-variants.{Refused}
 use Rattle.rules.specs.Calls.{Store, Outcome, core, countOf}
@@ -22,9 +23,14 @@ use Rattle.stream.specs.Turns.{stopped, toldBy, told, Takes}
 -- ---- steps
 
 -- one step more
-pub step-more : (numbers : List ℕ) (i : ℕ) → stepLines (stepsIn numbers i) ++ stepLine (stepAt numbers i) ≡ stepLines (stepsIn numbers (i + 1))
+pub step-more : {out out₁ out₂ : List ℕ} {at mid end : ℕ} (numbers : List ℕ) (i : ℕ) (x : Step) → x ≡ stepAt numbers i
+    → Appended out at out₁ mid (stepLines (stepsIn numbers i)) → Appended out₁ mid out₂ end (stepLine x)
+    → Appended out at out₂ end (stepLines (stepsIn numbers (i + 1)))
 unfolding stepLines stepsIn
-step-more numbers i = rw (add-one i, lines-append (stepsIn numbers i) (stepAt numbers i ∷ []), append-nil)
+step-more numbers i x e a b =
+    let lines : stepLines (stepsIn numbers i) ++ stepLine x ≡ stepLines (stepsIn numbers (i + 1)) =
+    rw (e, add-one i, lines-append (stepsIn numbers i) (stepAt numbers i ∷ []), append-nil) in
+    named lines (then a b)
 
 -- ---- a turn
 

@@ -1,3 +1,4 @@
 pub mod Obeyed
 pub mod Turns
 pub mod Ending
+pub mod Words

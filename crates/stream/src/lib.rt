@@ -19,6 +19,8 @@ use text::lines::put_cash;
 use text::lines::put_total;
 use text::pieces::put_word;
 use turns::take_turn;
+use words::WORDS;
+use words::put_words;
 ghost use mathlib.Core.Path.{_≡_};
 ghost use Rattle.rules.specs.Stream.{transcript};
 ghost use Rattle.index.specs.Asked.{asked};
@@ -29,6 +31,9 @@ ghost use Rattle.rules.specs.Stream.{Printed};
 ghost use Rattle.holdings.specs.Sums.{securityTotal, cashTotal};
 
 pub mod commands; // commands.rt: one command's operands decoded, and its call made
+mod bytes; // bytes.rt: a few bytes, where there is room
+mod words; // words.rt: the table of words, and numbers by it
+mod lines; // lines.rt: a command's lines
 pub mod turns; // turns.rt: the command at a place, and its lines
 
 // "above 65,536 bytes it prints `too long` only"
@@ -116,6 +121,8 @@ pub fn run(input: &[u8], output: &mut [u8]) -> usize
     let mut positions = [0i64; POSITIONS];
     let mut cash = [0i64; ACCOUNTS];
     let mut steps = [0u16; STEP_NUMBERS];
+    let mut words = [0u8; WORDS];
+    put_words(&mut words);
     let mut at: usize = 0;
     let mut number: u64 = 0;
     let mut end: usize = 0;
@@ -132,6 +139,7 @@ pub fn run(input: &[u8], output: &mut [u8]) -> usize
             &mut steps,
             output,
             end,
+            &words,
         );
         at = turn.at;
         end = turn.end;

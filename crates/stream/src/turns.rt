@@ -1,12 +1,12 @@
 // One command after another: what stands at a place, its lines, and where the next one stands.
 use crate::commands::obey;
+use crate::lines::put_line_by;
+use crate::lines::put_steps;
+use crate::words::WORDS;
 use chain::step_list::count_of;
-use chain::step_list::step_at;
 use identifiers::names::NAMES;
 use index::places::INDEX;
 use rules::Answer;
-use text::lines::put_line;
-use text::lines::put_step;
 use text::pieces::put_word;
 use wire::commands::Next;
 use wire::reader::next_in;
@@ -15,11 +15,11 @@ ghost use mathlib.Core.List.{[]};
 ghost use lib.ListN.{length};
 ghost use Rattle.rules.specs.declared.Answer.the-variants.{Refused};
 ghost use Rattle.rules.specs.Calls.{Store};
-ghost use Rattle.rules.specs.Stream.{said, stepLines};
-ghost use Rattle.chain.specs.StepList.{stepsIn};
+ghost use Rattle.rules.specs.Stream.{said};
 ghost use Rattle.text.specs.Appended.{Appended};
 ghost use Rattle.stream.specs.Obeyed.{held, Holds};
 ghost use Rattle.stream.specs.Turns.{told, Takes};
+ghost use Rattle.stream.specs.Words.{numberWords};
 
 // After a command: the place of the next command, and where the text ends.
 pub struct Turn {
@@ -27,25 +27,20 @@ pub struct Turn {
     pub end: usize,
 }
 
-// The lines of the first k steps.
-fn put_steps(out: &mut [u8], at: usize, k: usize, steps: &[u16]) -> usize
-    ensures { λ r. ⌜ Appended (now (out .entry)) at (now (out .exit)) r (stepLines (stepsIn (now (steps .entry)) k)) ⌝ }
-{
-    let mut end = put_word(out, at, b"");
-    let mut i: usize = 0;
-    while i < k {
-        end = put_step(out, end, step_at(steps, i));
-        i += 1;
-    }
-    end
-}
-
 // "1 and 2 stop the reading": it goes on at the input's end.
-fn stop(input: &[u8], number: u64, refusal: u8, out: &mut [u8], end: usize) -> Turn
+fn stop(
+    input: &[u8],
+    number: u64,
+    refusal: u8,
+    out: &mut [u8],
+    end: usize,
+    words: &[u8; WORDS],
+) -> Turn
+    requires { ⌜ now words ≡ numberWords ⌝ }
     ensures { λ r. ⌜ Appended (now (out .entry)) end (now (out .exit)) (r .end) (said number (Refused refusal) [])
         × (r .at ≡ length (now (input .entry))) ⌝ }
 {
-    let told = put_line(out, end, number, Answer::Refused(refusal));
+    let told = put_line_by(out, end, number, Answer::Refused(refusal), words);
     Turn {
         at: input.len(),
         end: told,
@@ -64,7 +59,9 @@ pub(crate) fn take_turn(
     steps: &mut [u16],
     out: &mut [u8],
     end: usize,
+    words: &[u8; WORDS],
 ) -> Turn
+    requires { ⌜ now words ≡ numberWords ⌝ }
     ensures { λ r. ⌜ ((st : Store)
         → Holds (held (now (index .entry)) (now (names .entry)) (now (positions .entry)) (now (cash .entry)) (now (steps .entry))) st
         → Takes (told (now (input .entry)) number at st) (now (out .entry)) end (now (out .exit)) r
@@ -75,8 +72,8 @@ pub(crate) fn take_turn(
             at,
             end: put_word(out, end, b""),
         },
-        Next::Unknown => stop(input, number, 1, out, end),
-        Next::Cut => stop(input, number, 2, out, end),
+        Next::Unknown => stop(input, number, 1, out, end, words),
+        Next::Cut => stop(input, number, 2, out, end, words),
         Next::Command {
             tag,
             start,
@@ -91,8 +88,8 @@ pub(crate) fn take_turn(
                 tag,
                 &input[start..after],
             );
-            let told = put_line(out, end, number, answer);
-            let last = put_steps(out, told, count_of(answer), steps);
+            let told = put_line_by(out, end, number, answer, words);
+            let last = put_steps(out, told, count_of(answer), steps, words);
             Turn {
                 at: after,
                 end: last,

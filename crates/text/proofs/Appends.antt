@@ -6,7 +6,7 @@ use native.Mathlib.Decide.{decLe}
 use native.Mathlib.Omega.{arith}
 use mathlib.Core.List.{List, [], _∷_, _++_, append-assoc, append-nil}
 use lib.ListN.{length, take, drop, set, getD, length-append, length-take, length-set}
-use lib.Seq.{take-suc, take-suc-set, take-all, take-length, take-append-seam, length-take-le, drop-drop, drop-set-lt}
+use lib.Seq.{take-suc, take-suc-set, take-all, take-length, take-append-seam, take-at, take-take, length-take-le, drop-drop, drop-set-lt}
 use Rattle.text.specs.Appended.{Appended, shown}
 
 -- ---- the buffer's end
@@ -125,7 +125,37 @@ pub three-bytes : (out : List ℕ) (at a b c : ℕ) → at + 2 < length out
     → Appended out at (set (set (set out at a) (at + 1) b) (at + 2) c) (at + 3) (a ∷ (b ∷ (c ∷ [])))
 three-bytes out at a b c h = one-more (at + 3) c (two-bytes out at a b (omega arith)) h (omega arith)
 
+pub four-bytes : (out : List ℕ) (at a b c d : ℕ) → at + 3 < length out
+    → Appended out at (set (set (set (set out at a) (at + 1) b) (at + 2) c) (at + 3) d) (at + 4) (a ∷ (b ∷ (c ∷ (d ∷ []))))
+four-bytes out at a b c d h = one-more (at + 4) d (three-bytes out at a b c (omega arith)) h (omega arith)
+
+-- a text over the last byte of another
+pub over : {out out₁ out₂ v : List ℕ} {at mid last end y : ℕ} (x : List ℕ) (b : ℕ) → Appended out at out₁ last (x ++ (b ∷ [])) → at + length x < length out
+    → last ≡ mid + 1 → Appended out₁ mid out₂ end (y ∷ v) → Appended out at out₂ end (x ++ (y ∷ v))
+over {out} {out₁} {out₂} {v} {at} {mid} {last} {end} {y} x b a h m c =
+    let long : length (x ++ (b ∷ [])) ≡ length x + 1 = length-append x (b ∷ []) in
+    let f : Fitted out at out₁ last (x ++ (b ∷ [])) = fits a (omega arith) in
+    let seam : length (take at out ++ x) ≡ mid = omega (arith, f .ends, length-append (take at out) x, length-take-le at out (omega arith)) in
+    let cut : take mid out₁ ≡ take at out ++ x =
+    sym (take-take mid last out₁ (omega arith))
+    ∙ (ap (take mid) (f .front ∙ sym (append-assoc (take at out) x (b ∷ []))) ∙ take-at (take at out ++ x) (b ∷ []) mid seam) in
+    let e : shown out₁ mid (y ∷ v) ≡ shown out at (x ++ (y ∷ v)) =
+    rw (a .same, cut) (ap (take (length out)) (append-assoc (take at out) x (y ∷ v))) in
+    let later : last ≤ end =
+    omega (arith, c .ends, a .same, f .ends, length-take (length out₁) (take mid out₁ ++ (y ∷ v)), length-append (take mid out₁) (y ∷ v), length-take mid out₁) in
+    record {
+      ends = c .ends ∙ ap length e;
+      front = c .front ∙ e;
+      rest = c .rest ∙ further out₁ out last end later (a .rest);
+      same = c .same ∙ a .same;
+    }
+
 -- ---- the front of the buffer
+
+-- it ends where the new text does, or before
+pub ends-by : {out out′ text : List ℕ} {at end : ℕ} → Appended out at out′ end text → end ≤ at + length text
+ends-by {out} {out′} {text} {at} {end} a =
+    omega (arith, a .ends, length-take (length out) (take at out ++ text), length-append (take at out) text, length-take at out)
 
 -- it can be lent as a part of the buffer
 pub front-of : {out out′ text : List ℕ} {at end : ℕ} → Appended out at out′ end text → (end ≤ length out′) × (end ≡ length (take end out′))

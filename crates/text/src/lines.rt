@@ -1,5 +1,4 @@
 // The lines of document 01's "Commands and program".
-use crate::pieces::last_digit;
 use crate::pieces::put_counted;
 use crate::pieces::put_decimal;
 use crate::pieces::put_signed;
@@ -10,76 +9,17 @@ use rules::ISIN;
 use rules::Step;
 use rules::Units;
 ghost use mathlib.Core.List.{[]};
-ghost use Prim.Native.Nat.{_+_, _≤_, _<_};
-ghost use lib.ListN.{length};
-ghost use Rattle.rules.specs.Stream.{decimal, stepLine, answerText, said, totalLine, cashLine};
+ghost use Rattle.rules.specs.Stream.{stepLine, answerText, said, totalLine, cashLine};
 ghost use Rattle.text.specs.Appended.{Appended};
 
-// A number of at most three digits, where there is room for them.
-fn put_small(out: &mut [u8], at: usize, n: u16) -> usize
-    requires { ⌜ (n < 1_000) × (at + 3 ≤ length (now out)) ⌝ }
-    ensures text { λ r. ⌜ Appended (now (out .entry)) at (now (out .exit)) r (decimal n) ⌝ }
-    ensures near { λ r. ⌜ r ≤ at + 3 ⌝ }
-{
-    let wide = n as u64;
-    if n < 10 {
-        out[at] = last_digit(wide);
-        return at + 1;
-    }
-    if n < 100 {
-        out[at] = last_digit(wide / 10);
-        out[at + 1] = last_digit(wide);
-        return at + 2;
-    }
-    out[at] = last_digit(wide / 100);
-    out[at + 1] = last_digit(wide / 10);
-    out[at + 2] = last_digit(wide);
-    at + 3
-}
-
-// A step's line, where there is room for it: two bytes, and three numbers of at most three digits with a byte behind each.
-fn put_short(out: &mut [u8], at: usize, step: Step) -> usize
-    requires { ⌜ (at + 14 ≤ length (now out)) × ((step .debited < 1_000) × (step .credited < 1_000)) ⌝ }
-    ensures { λ r. ⌜ Appended (now (out .entry)) at (now (out .exit)) r (stepLine step) ⌝ }
-{
-    out[at] = b'-';
-    out[at + 1] = b' ';
-    let a = put_small(out, at + 2, step.csd as u16);
-    out[a] = b' ';
-    let b = put_small(out, a + 1, step.debited);
-    out[b] = b' ';
-    let c = put_small(out, b + 1, step.credited);
-    out[c] = b'\n';
-    c + 1
-}
-
-// A step's line, however much of it there is room for.
-fn put_any(out: &mut [u8], at: usize, step: Step) -> usize
+// "a line per step: `-`, CSD, debited, credited"
+pub fn put_step(out: &mut [u8], at: usize, step: Step) -> usize
     ensures { λ r. ⌜ Appended (now (out .entry)) at (now (out .exit)) r (stepLine step) ⌝ }
 {
     let a = put_counted(out, at, b"- ", step.csd as u64);
     let b = put_counted(out, a, b" ", step.debited as u64);
     let c = put_counted(out, b, b" ", step.credited as u64);
     put_word(out, c, b"\n")
-}
-
-// "a line per step: `-`, CSD, debited, credited"
-pub fn put_step(out: &mut [u8], at: usize, step: Step) -> usize
-    ensures { λ r. ⌜ Appended (now (out .entry)) at (now (out .exit)) r (stepLine step) ⌝ }
-{
-    if 999 < step.debited {
-        return put_any(out, at, step);
-    }
-    if 999 < step.credited {
-        return put_any(out, at, step);
-    }
-    if out.len() < 14 {
-        return put_any(out, at, step);
-    }
-    if out.len() - 14 < at {
-        return put_any(out, at, step);
-    }
-    put_short(out, at, step)
 }
 
 // "`ok`, `no` and the refusal, or `booked` / `chain` and K"

@@ -50,7 +50,7 @@ fn put_digits(out: &mut [u8], at: usize, n: u64, k: usize) -> usize
 }
 
 // The last decimal digit of n.
-pub(crate) fn last_digit(n: u64) -> u8
+fn last_digit(n: u64) -> u8
     ensures { λ r. ⌜ r ≡ n % 10 + 48 ⌝ }
 {
     (n % 10) as u8 + b'0'

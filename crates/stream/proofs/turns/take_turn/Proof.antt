@@ -1,6 +1,7 @@
 -- `stream::turns::take_turn` meets its contract: by what stands at the place, nothing, a stop, or a command obeyed and told. Assumes nothing.
 use mathlib.Core.Path.{sym, _∙_}
 use native.Mathlib.Omega.{arith}
+use Rattle.text.proofs.Appends.{front-of}
 use Rattle.wire.proofs.Found.{stands, operands-long}
 use Rattle.stream.proofs.Telling.{takes-nothing, takes-unknown, takes-cut, takes-command}
 use borrow.Author.Needs.{needs}
@@ -61,14 +62,14 @@ part-obey-end c =
 obey-requires : tie.Need-obey-requires
 obey-requires c κs = search needs
 
-put-line-requires : tie.Need-put-line-requires
-put-line-requires c κs = search needs
+put-line-by-requires : tie.Need-put-line-by-requires
+put-line-by-requires c κs = search needs
 
 count-of-requires : tie.Need-count-of-requires
 count-of-requires c κs = search needs
 
 put-steps-requires : tie.Need-put-steps-requires
-put-steps-requires c κs = search needs
+put-steps-requires c κs = (front-of (c .before .before .before .before .before .put-line-by .ensures) .0, search needs)
 
 same-length : tie.Need-same-length
 same-length c = search needs
@@ -114,7 +115,7 @@ returns-4 c = λ st holds.
     let next = sym (p .before .before .next-in .ensures) ∙ p .tag .given .1 in
     let whole = operands-long (stands (a .input .now) (a .at) (x .0) (x .1 .0) (x .1 .1 .0) next) in
     takes-command (a .input .now) (a .number) (a .at) (a .out .now) (a .end) st (x .0) (x .1 .0) (x .1 .1 .0) _ _ _ _ _ _ _ next
-    (c .before .before .before .before .before .before .before .before .before .before .before .before .before .before .obey .ensures whole st holds) (c .before .before .before .before .before .before .before .before .put-line .ensures) (c .before .before .before .before .count-of .ensures) (c .before .before .put-steps .ensures)
+    (c .before .before .before .before .before .before .before .before .before .before .before .before .before .before .obey .ensures whole st holds) (c .before .before .before .before .before .before .before .before .put-line-by .ensures) (c .before .before .before .before .count-of .ensures) (c .before .before .put-steps .ensures)
 
 pub take-turn-spec : {M : Type 1} → statement M
 take-turn-spec =
@@ -133,7 +134,7 @@ take-turn-spec =
     part-obey-start
     part-obey-end
     obey-requires
-    put-line-requires
+    put-line-by-requires
     count-of-requires
     put-steps-requires
     same-length

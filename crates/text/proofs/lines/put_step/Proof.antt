@@ -1,9 +1,9 @@
--- `text::lines::put_any` meets its contract: one text after another. Assumes nothing.
+-- `text::lines::put_step` meets its contract: one text after another. Assumes nothing.
 use borrow.Author.Needs.{needs}
 use Rattle.rules.specs.Stream.{stepLine}
 use Rattle.text.proofs.Appends.{then}
-use Rattle.text.proofs.lines.put_any.Statement.{statement}
-use Rattle.text.proofs.lines.put_any.Tie as tie
+use Rattle.text.proofs.lines.put_step.Statement.{statement}
+use Rattle.text.proofs.lines.put_step.Tie as tie
 
 slice-aggregate-put-counted : tie.Need-slice-aggregate-put-counted
 slice-aggregate-put-counted c = search needs
@@ -50,8 +50,8 @@ returns c =
     let csd = debited .before .before .before .before .before .before in
     then (csd .put-counted .ensures) (then (debited .put-counted2 .ensures) (then (credited .put-counted3 .ensures) (end .put-word .ensures)))
 
-pub put-any-spec : {M : Type 1} → statement M
-put-any-spec =
+pub put-step-spec : {M : Type 1} → statement M
+put-step-spec =
     tie.close
     (tie.spec
     slice-aggregate-put-counted
