@@ -19,7 +19,6 @@ use crate::command::{Command, Reader};
 use crate::directory::*;
 use crate::refusal::Refusal;
 use crate::register::Register;
-use crate::text::Text;
 
 /// The seed's stream.
 pub fn stream(seed: u64, subject: &mut (impl Implementation + Program), coverage: &mut Coverage) -> Result<(), String> {
@@ -214,7 +213,7 @@ fn list_of_calls(
     let mut reader = Reader::new(bytes);
     let mut store = Store::empty();
     let mut balances = Balances::default();
-    let mut text = Text::default();
+    let mut text = String::new();
     let mut number = 0;
     while let Some(code) = reader.peek() {
         number += 1;
@@ -223,19 +222,19 @@ fn list_of_calls(
             Ok(command) => command,
             Err(refusal) => {
                 coverage.answer(command_name(code), &Answer::Refused(refusal.number()));
-                text.refused(number, refusal.number());
+                text += &format!("{number} no {}\n", refusal.number());
                 break;
             }
         };
         let call = Call::Command(command);
         let answer = next_call(&call, &mut random, &mut store, &mut balances, subject, coverage).map_err(place)?;
-        print(&mut text, number, &answer, &store.steps)?;
+        text += &lines(number, &answer, &store.steps)?;
     }
-    print_totals(&mut text, &mut store, subject)?;
+    text += &total_lines(&mut store, subject)?;
     if store.directory != balances.rows.record() {
         return Err("another directory than the accepted rows make".into());
     }
-    Ok(text.bytes)
+    Ok(text.into_bytes())
 }
 
 /// Makes the next call of a list and judges it: by the literal readings, by demand 3, and a booked pair by what comes
@@ -353,29 +352,34 @@ fn same_chain(
     }
 }
 
-fn print(text: &mut Text, number: u64, answer: &Answer, steps: &[Step]) -> Result<(), String> {
+/// The lines of a command's answer, written without the model's own.
+fn lines(number: usize, answer: &Answer, steps: &[Step]) -> Result<String, String> {
+    let chain = |word, steps: &[Step]| {
+        let line = |&Step { csd, debit, credit }: &Step| format!("- {csd} {debit} {credit}\n");
+        format!("{number} {word} {}\n", steps.len()) + &steps.iter().map(line).collect::<String>()
+    };
     match *answer {
-        Answer::Accepted => text.accepted(number),
-        Answer::Booked(length) => text.chain(number, b" booked ", &steps[..length]),
-        Answer::Chain(length) => text.chain(number, b" chain ", &steps[..length]),
-        Answer::Refused(refusal) => text.refused(number, refusal),
-        Answer::Sum(_) => return Err(format!("{answer:?} to a command")),
+        Answer::Accepted => Ok(format!("{number} ok\n")),
+        Answer::Booked(length) => Ok(chain("booked", &steps[..length])),
+        Answer::Chain(length) => Ok(chain("chain", &steps[..length])),
+        Answer::Refused(refusal) => Ok(format!("{number} no {refusal}\n")),
+        Answer::Sum(_) => Err(format!("{answer:?} to a command")),
     }
-    Ok(())
 }
 
-fn print_totals(text: &mut Text, store: &mut Store, subject: &mut impl Implementation) -> Result<(), String> {
+fn total_lines(store: &mut Store, subject: &mut impl Implementation) -> Result<String, String> {
+    let mut text = String::new();
     for number in 0..store.directory.securities.count {
         let Answer::Sum(sum) = subject.call(store, &Call::Total { security: number as u8 }) else {
             return Err(format!("no total of security {number}"));
         };
-        text.total(&store.directory.securities.rows[number].isin, sum);
+        let isin = String::from_utf8_lossy(&store.directory.securities.rows[number].isin);
+        text += &format!("total {isin} {sum}\n");
     }
     let Answer::Sum(sum) = subject.call(store, &Call::CashTotal) else {
         return Err("no total of cash".into());
     };
-    text.cash(sum);
-    Ok(())
+    Ok(text + &format!("cash {sum}\n"))
 }
 
 /// The first line in which two texts differ, if any.
