@@ -1,10 +1,11 @@
 //! Positions and cash: what a call may change, judged on the numbers before it, and the change.
 
 use crate::chain::{Step, Steps};
-use crate::directory::{Day, ACCOUNTS, OMNIBUS, PARTICIPANT, SECURITIES};
+use crate::directory::{Day, ACCOUNTS, PARTICIPANT, SECURITIES};
+use crate::links::Standing;
 use crate::numbers::{AccountNumber, SecurityNumber};
 use crate::refusal::{require, Refusal};
-use crate::register::{Register, Standing};
+use crate::register::Register;
 
 /// 10^15: the largest quantity and amount, and the bound of every number that a call changes.
 pub const BOUND: i64 = 1_000_000_000_000_000;
@@ -119,24 +120,26 @@ pub enum Direction {
 }
 
 impl Register {
-    /// The chain of two halves on a day, or the refusal of these or of the chain.
-    pub fn derive_halves(&self, halves: Halves, day: Day) -> Result<Steps, Refusal> {
+    /// Leaves the chain of two halves on a day, or gives the refusal of these or of the chain.
+    #[inline(always)]
+    pub fn derive_halves(&self, halves: Halves, day: Day, steps: &mut Steps) -> Result<(), Refusal> {
         let instruction = self.instruction(halves)?;
-        self.derive(instruction.security, instruction.delivering, instruction.receiving, day)
+        self.derive(instruction.security, instruction.delivering, instruction.receiving, day, steps)
     }
 
-    /// Books the chain of two halves on a day and their cash, or gives the refusal and changes nothing.
+    /// Books the chain of two halves on a day and their cash, or gives the refusal and changes neither.
+    #[inline(always)]
     pub fn settle(
         &self,
         positions: &mut Positions,
         cash: &mut Cash,
         halves: Halves,
         day: Day,
-    ) -> Result<Steps, Refusal> {
+        steps: &mut Steps,
+    ) -> Result<(), Refusal> {
         let instruction = self.instruction(halves)?;
-        let steps = self.derive(instruction.security, instruction.delivering, instruction.receiving, day)?;
-        self.book(positions, cash, &instruction, &steps)?;
-        Ok(steps)
+        self.derive(instruction.security, instruction.delivering, instruction.receiving, day, steps)?;
+        book(positions, cash, &instruction, steps)
     }
 
     /// Brings a quantity in on a participant account against its CSD's source on a day, or takes it out.
@@ -224,54 +227,104 @@ impl Register {
         })
     }
 
-    /// Moves the quantity along the steps and the amount back, or gives 20, 21 or 22. No number is
-    /// changed by two steps, so each is judged by itself.
-    fn book(
-        &self,
-        positions: &mut Positions,
-        cash: &mut Cash,
-        instruction: &Instruction,
-        steps: &[Step],
-    ) -> Result<(), Refusal> {
-        let Instruction { delivering, receiving, security, quantity, amount } = *instruction;
-        let places = |step: &Step| {
-            let place = |account| position(AccountNumber(account), security);
-            (place(step.debit), place(step.credit))
-        };
-        let (mut short, mut beyond) = (false, false);
-        for step in steps {
-            let (debit, credit) = places(step);
-            let provided = matches!(self.account_kind(AccountNumber(step.debit)), PARTICIPANT | OMNIBUS);
-            short |= provided && positions[debit] < quantity;
-            beyond |= positions[debit].minus(quantity).is_err() || positions[credit].plus(quantity).is_err();
-        }
-        require(!short, Refusal::SecuritiesShort)?;
-        let (payee, payer) = (cash[delivering.index()], cash[receiving.index()]);
-        let paid = amount.0 > 0;
-        require(!paid || payer >= amount, Refusal::CashShort)?;
-        require(!beyond, Refusal::BeyondBound)?;
-        if paid {
-            (cash[delivering.index()], cash[receiving.index()]) = (payee.plus(amount)?, payer.minus(amount)?);
-        }
-        for step in steps {
-            let (debit, credit) = places(step);
-            positions[debit].0 -= quantity.0;
-            positions[credit].0 += quantity.0;
-        }
-        Ok(())
-    }
-
     /// The account that bring in debits: "the issuance account of its issuer link, else the inter-CSD
     /// account of its default link to an external CSD", by the participant's row there, or 19.
     fn source(&self, security: SecurityNumber, account: AccountNumber, day: Day) -> Result<AccountNumber, Refusal> {
-        match self.standing(security, self.account_csd(account), day) {
+        match self.links(security, self.account_csd(account)).standing(day) {
             Standing::Issuer(issuance) => Ok(issuance),
-            Standing::Investor(technical) if self.is_external(technical) => {
+            Standing::InvestorOutside(technical) => {
                 let pair = self.pair(technical, account).ok_or(Refusal::NoSource)?;
                 Ok(AccountNumber(pair.investor_account))
             }
             _ => Err(Refusal::NoSource),
         }
+    }
+}
+
+/// Moves the quantity along the steps and the amount back, or gives 20, 21 or 22.
+fn book(positions: &mut Positions, cash: &mut Cash, instruction: &Instruction, steps: &Steps) -> Result<(), Refusal> {
+    let Instruction { delivering, receiving, security, quantity, amount } = *instruction;
+    let (payee, payer) = (delivering.index(), receiving.index());
+    let booked = pay(cash[payee], cash[payer], amount).and_then(|balances| {
+        move_along(positions, security, quantity, steps)?;
+        (cash[payee], cash[payer]) = balances;
+        Ok(())
+    });
+    booked.map_err(|refusal| {
+        let is_short = |step: &Step| positions[position(AccountNumber(step.debit), security)] < quantity;
+        if steps.up().iter().any(is_short) {
+            Refusal::SecuritiesShort
+        } else {
+            refusal
+        }
+    })
+}
+
+/// The balances of payee and payer after a payment, or 21 or 22. "Amount 0 touches none."
+fn pay(payee: Cents, payer: Cents, amount: Cents) -> Result<(Cents, Cents), Refusal> {
+    if amount.0 == 0 {
+        return Ok((payee, payer));
+    }
+    require(payer >= amount, Refusal::CashShort)?;
+    Ok((payee.plus(amount)?, payer.minus(amount)?))
+}
+
+/// Moves the quantity along all steps, or along none where a number does not allow it. No number is changed by two
+/// steps, so that each is judged as it was before, and the steps made can be taken back.
+fn move_along(
+    positions: &mut Positions,
+    security: SecurityNumber,
+    quantity: Units,
+    steps: &Steps,
+) -> Result<(), Refusal> {
+    let Units(units) = quantity;
+    let credited = Limits::new(-BOUND - units, BOUND - units);
+    let provided = Limits::new(units, BOUND + units);
+    let unprovided = Limits::new(units - BOUND, BOUND + units);
+    let places = |step: &Step| [step.debit, step.credit].map(|account| position(AccountNumber(account), security));
+    let mut make = |steps: &[Step], debited: Limits| {
+        let made = steps.iter().take_while(|step| {
+            let [debit, credit] = places(step);
+            let allowed = debited.hold(positions[debit]) && credited.hold(positions[credit]);
+            if allowed {
+                positions[debit].0 -= units;
+                positions[credit].0 += units;
+            }
+            allowed
+        });
+        made.count()
+    };
+    let mut made = make(steps.up(), provided);
+    if made == steps.up().len() {
+        made += make(steps.down(), unprovided);
+    }
+    if made == steps.len() {
+        return Ok(());
+    }
+    for step in &steps[..made] {
+        let [debit, credit] = places(step);
+        positions[debit].0 += units;
+        positions[credit].0 -= units;
+    }
+    Err(Refusal::BeyondBound)
+}
+
+/// The positions that a step may change: those that end within the bound, and not below 0 where provision is wanted.
+#[derive(Clone, Copy)]
+struct Limits {
+    lowest: i64,
+    span: u64,
+}
+
+impl Limits {
+    /// From a lowest to a highest number, both within twice the bound.
+    fn new(lowest: i64, highest: i64) -> Limits {
+        Limits { lowest, span: highest.abs_diff(lowest) }
+    }
+
+    /// The difference to a number below the lowest wraps to one beyond any span.
+    fn hold(self, number: Units) -> bool {
+        number.0.wrapping_sub(self.lowest) as u64 <= self.span
     }
 }
 

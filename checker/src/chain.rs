@@ -4,7 +4,7 @@ use crate::directory::{Day, Pair};
 use crate::numbers::{AccountNumber, CsdNumber, SecurityNumber};
 use crate::refusal::Refusal;
 use crate::register::Register;
-use crate::walk::{Side, Walk, WalkEnd};
+use crate::walk::WalkEnd;
 
 /// "K is at most 16."
 pub const STEPS: usize = 16;
@@ -18,10 +18,24 @@ pub struct Step {
 }
 
 /// The steps of a chain, from the delivering to the receiving side.
-#[derive(Clone, Debug)]
+#[derive(Clone, Debug, Default)]
 pub struct Steps {
     list: [Step; STEPS],
     length: usize,
+    up: usize,
+}
+
+impl Steps {
+    /// The steps of the delivering side, up to the CSD where both meet: they debit a participant account and omnibus
+    /// accounts.
+    pub fn up(&self) -> &[Step] {
+        &self[..self.up]
+    }
+
+    /// The other steps: they debit mirror, inter-CSD and issuance accounts.
+    pub fn down(&self) -> &[Step] {
+        &self[self.up..]
+    }
 }
 
 impl std::ops::Deref for Steps {
@@ -50,57 +64,62 @@ struct Route<'a> {
 }
 
 impl Register {
-    /// The steps between two participant accounts on a day, or refusal 14 to 18.
+    /// Leaves the steps between two participant accounts on a day, or gives refusal 14 to 18.
     pub fn derive(
         &self,
         security: SecurityNumber,
         delivering: AccountNumber,
         receiving: AccountNumber,
         day: Day,
-    ) -> Result<Steps, Refusal> {
-        let d = self.account_csd(delivering);
-        let r = self.account_csd(receiving);
-        let steps = |route| self.steps(&route, delivering, receiving);
+        steps: &mut Steps,
+    ) -> Result<(), Refusal> {
+        let (d, r) = (self.account_csd(delivering), self.account_csd(receiving));
         if d == r {
-            return steps(Route { delivering: &[d], receiving: &[d], meeting: Meeting::Shared });
+            steps.list[0] = Step { csd: d.0, debit: delivering.0, credit: receiving.0 };
+            (steps.length, steps.up) = (1, 1);
+            return Ok(());
         }
         let (from_d, from_r) = (self.default_walk(security, d, day), self.default_walk(security, r, day));
-        if let Some(route) = shared_route(&from_d, &from_r) {
-            return steps(route);
+        let mut climb = |delivering_side, receiving_side, meeting| {
+            let route = Route { delivering: delivering_side, receiving: receiving_side, meeting };
+            self.climb(&route, delivering, receiving, steps)
+        };
+        if from_d.named.meets(from_r.named) && from_d.arrives() && from_r.arrives() {
+            return climb(from_d.up_to_shared(&from_r), from_r.up_to_shared(&from_d), Meeting::Shared);
         }
-        if let Some(side) = self.directed_walk(security, d, r, day) {
-            return steps(Route { delivering: side.csds(), receiving: &[r], meeting: Meeting::Shared });
+        if let Some(side) = self.directed_walk(security, &from_d, r, day) {
+            return climb(side.csds(), &[r], Meeting::Shared);
         }
-        if let Some(side) = self.directed_walk(security, r, d, day) {
-            return steps(Route { delivering: &[d], receiving: side.csds(), meeting: Meeting::Shared });
+        if let Some(side) = self.directed_walk(security, &from_r, d, day) {
+            return climb(&[d], side.csds(), Meeting::Shared);
         }
-        let meeting = judge(from_d.end, from_r.end)?;
-        steps(Route { delivering: from_d.side.csds(), receiving: from_r.side.csds(), meeting })
+        climb(from_d.side.csds(), from_r.side.csds(), judge(from_d.end, from_r.end)?)
     }
 
     /// The step of each CSD of a route, or 18. Each side is climbed from its own account upwards: "a step looks up
     /// the row of the account at its other side".
-    fn steps(&self, route: &Route, delivering: AccountNumber, receiving: AccountNumber) -> Result<Steps, Refusal> {
-        let mut list = [Step::default(); STEPS];
-        let mut front = 0;
+    fn climb(
+        &self,
+        route: &Route,
+        delivering: AccountNumber,
+        receiving: AccountNumber,
+        steps: &mut Steps,
+    ) -> Result<(), Refusal> {
+        let (up, down) = (route.delivering.len(), route.receiving.len());
+        let length = up + down - usize::from(matches!(route.meeting, Meeting::Shared));
+        let list = &mut steps.list[..length];
         let mut debit = delivering;
-        for hop in route.delivering.windows(2) {
+        for (hop, step) in route.delivering.windows(2).zip(list.iter_mut()) {
             let pair = self.pair_or_refusal(hop[1], debit)?;
-            list[front] = Step { csd: hop[0].0, debit: debit.0, credit: pair.investor_account };
-            front += 1;
+            *step = Step { csd: hop[0].0, debit: debit.0, credit: pair.investor_account };
             debit = AccountNumber(pair.technical_account);
         }
-        let ends = if matches!(route.meeting, Meeting::Shared) { 1 } else { 2 };
-        let length = front + route.receiving.len() - 1 + ends;
-        let mut back = length;
         let mut credit = receiving;
-        for hop in route.receiving.windows(2) {
+        for (hop, step) in route.receiving.windows(2).zip(list.iter_mut().rev()) {
             let pair = self.pair_or_refusal(hop[1], credit)?;
-            back -= 1;
-            list[back] = Step { csd: hop[0].0, debit: pair.investor_account, credit: credit.0 };
+            *step = Step { csd: hop[0].0, debit: pair.investor_account, credit: credit.0 };
             credit = AccountNumber(pair.technical_account);
         }
-        let (d, r) = (route.delivering[route.delivering.len() - 1], route.receiving[route.receiving.len() - 1]);
         let far = match route.meeting {
             Meeting::Shared => (credit.0, debit.0),
             Meeting::Issuers(delivering, receiving) => (delivering.0, receiving.0),
@@ -108,30 +127,15 @@ impl Register {
                 (self.pair_or_refusal(x, debit)?.investor_account, self.pair_or_refusal(y, credit)?.investor_account)
             }
         };
-        list[front] = Step { csd: d.0, debit: debit.0, credit: far.0 };
-        list[back - 1] = Step { csd: r.0, debit: far.1, credit: credit.0 };
-        Ok(Steps { list, length })
+        list[up - 1] = Step { csd: route.delivering[up - 1].0, debit: debit.0, credit: far.0 };
+        list[length - down] = Step { csd: route.receiving[down - 1].0, debit: far.1, credit: credit.0 };
+        (steps.length, steps.up) = (length, up);
+        Ok(())
     }
 
     fn pair_or_refusal(&self, technical: CsdNumber, served: AccountNumber) -> Result<&Pair, Refusal> {
         self.pair(technical, served).ok_or(Refusal::NoPair)
     }
-}
-
-/// "Both default walks end inside or outside and share a CSD in T2S": each side up to the first one.
-fn shared_route<'a>(from_d: &'a Walk, from_r: &'a Walk) -> Option<Route<'a>> {
-    if !(from_d.arrives() && from_r.arrives() && from_d.named.meets(from_r.named)) {
-        return None;
-    }
-    let up_to_shared = |side: &'a Side, other: &Walk| {
-        let first = side.csds().iter().position(|&csd| other.named.contains(csd))?;
-        side.csds().get(..=first)
-    };
-    Some(Route {
-        delivering: up_to_shared(&from_d.side, from_r)?,
-        receiving: up_to_shared(&from_r.side, from_d)?,
-        meeting: Meeting::Shared,
-    })
 }
 
 /// "The two ends are judged together." Without a link comes before too long.

@@ -64,7 +64,8 @@ pub fn move_cash(
 /// Writes the steps of the chain into the lent list, and answers how many they are.
 pub fn derive(directory: &Directory, steps: &mut [Step], halves: Halves, day: Day) -> Result<usize, Refusal> {
     require(steps.len() >= STEPS, Refusal::LentList)?;
-    let chain = Register::of(directory)?.derive_halves(halves, day)?;
+    let mut chain = Steps::default();
+    Register::of(directory)?.derive_halves(halves, day, &mut chain)?;
     Ok(hand_over(&chain, steps))
 }
 
@@ -80,7 +81,8 @@ pub fn settle(
     let positions = lent(positions)?;
     let cash = lent(cash)?;
     require(steps.len() >= STEPS, Refusal::LentList)?;
-    let chain = Register::of(directory)?.settle(positions, cash, halves, day)?;
+    let mut chain = Steps::default();
+    Register::of(directory)?.settle(positions, cash, halves, day, &mut chain)?;
     Ok(hand_over(&chain, steps))
 }
 

@@ -1,44 +1,170 @@
-//! The links that one CSD has for one security, each with its days.
+//! The links of all CSDs for all securities, each with its days, as walks and new links read them.
 
 use crate::directory::*;
-use crate::numbers::CsdNumber;
+use crate::numbers::{AccountNumber, CsdNumber, CsdSet, SecurityNumber};
 
-/// Links in order of entry. On any day one of them at most has flag 1, and where one has flag 0, one has flag 1.
-#[derive(Clone, Default)]
+/// What a link makes of its CSD for a security: an issuer with its issuance account, or an investor with a technical
+/// issuer, in T2S or external. Without a link it is neither.
+#[derive(Clone, Copy, PartialEq, Eq, Debug, Default)]
+pub enum Standing {
+    #[default]
+    NoLink,
+    Issuer(AccountNumber),
+    Investor(CsdNumber),
+    InvestorOutside(CsdNumber),
+}
+
+impl Standing {
+    /// The technical issuer of an investor.
+    pub fn technical(self) -> Option<CsdNumber> {
+        match self {
+            Standing::Investor(technical) | Standing::InvestorOutside(technical) => Some(technical),
+            Standing::NoLink | Standing::Issuer(_) => None,
+        }
+    }
+}
+
+/// The number of a link, from 1 in order of entry. A byte names one of 256 rows, so that no place is tested.
+type LinkNumber = u8;
+const ROWS: usize = 256;
+
+/// The number of the row behind the oldest link of a list.
+const NO_LINK: LinkNumber = 0;
+
+/// A link, and the one of the same flag that its CSD had last for the security.
+#[derive(Clone, Copy)]
+struct Row {
+    days: Period,
+    standing: Standing,
+    older: LinkNumber,
+}
+
+#[derive(Clone)]
 pub struct Links {
-    rows: Vec<Link>,
+    rows: [Row; ROWS],
+    count: LinkNumber,
+    /// By security and CSD, the newest link with flag 1.
+    defaults: [[LinkNumber; CSDS]; SECURITIES],
+    /// The same with flag 0.
+    alternatives: [[LinkNumber; CSDS]; SECURITIES],
+    /// By security and technical issuer, the CSDs with a link to it on any day.
+    pointing: [[CsdSet; CSDS]; SECURITIES],
+}
+
+impl Default for Links {
+    fn default() -> Self {
+        Links {
+            rows: [Row { days: Period::ALWAYS, standing: Standing::NoLink, older: NO_LINK }; ROWS],
+            count: 0,
+            defaults: Default::default(),
+            alternatives: Default::default(),
+            pointing: Default::default(),
+        }
+    }
 }
 
 impl Links {
-    pub(crate) fn push(&mut self, link: Link) {
-        self.rows.push(link);
+    /// The links of a CSD for a security.
+    pub fn of(&self, security: SecurityNumber, csd: CsdNumber) -> LinksOf<'_> {
+        let newest = |list: &[[LinkNumber; CSDS]; SECURITIES]| list[security.index()][csd.index()];
+        LinksOf { rows: &self.rows, default: newest(&self.defaults), alternative: newest(&self.alternatives) }
     }
 
-    /// The link of a day with flag 1: the issuer link, or the default link to a technical issuer.
-    pub fn default_on(&self, day: Day) -> Option<&Link> {
-        self.rows.iter().find(|link| link.flag == DEFAULT && link.days.contains(day))
+    /// The CSDs that have a link for a security to this one on any day.
+    pub fn pointing_to(&self, security: SecurityNumber, technical: CsdNumber) -> CsdSet {
+        self.pointing[security.index()][technical.index()]
+    }
+
+    /// Adds a link. There must be fewer than 128.
+    pub(crate) fn push(
+        &mut self,
+        security: SecurityNumber,
+        csd: CsdNumber,
+        flag: u8,
+        standing: Standing,
+        days: Period,
+    ) {
+        self.count += 1;
+        let lists = if flag == DEFAULT { &mut self.defaults } else { &mut self.alternatives };
+        let newest = &mut lists[security.index()][csd.index()];
+        self.rows[usize::from(self.count)] = Row { days, standing, older: *newest };
+        *newest = self.count;
+        if let Some(technical) = standing.technical() {
+            self.pointing[security.index()][technical.index()].insert(csd);
+        }
+    }
+}
+
+/// The links that one CSD has for one security. On any day one of them at most has flag 1, and where one has flag 0, one
+/// has flag 1.
+#[derive(Clone, Copy)]
+pub struct LinksOf<'a> {
+    rows: &'a [Row; ROWS],
+    default: LinkNumber,
+    alternative: LinkNumber,
+}
+
+impl LinksOf<'_> {
+    /// What the CSD is on a day by its link with flag 1: the issuer link, or the default link to a technical issuer.
+    #[inline(always)]
+    pub fn standing(self, day: Day) -> Standing {
+        self.default_on(day).standing
     }
 
     /// Whether a link of a day, default or alternative, points to the CSD.
-    pub fn point_to(&self, target: CsdNumber, day: Day) -> bool {
-        self.rows.iter().any(|link| link.technical == target.0 && link.days.contains(day))
+    pub fn point_to(self, target: CsdNumber, day: Day) -> bool {
+        self.meet(Period::new(day, day), |standing| standing.technical() == Some(target))
     }
 
     /// Whether a link that fits shares a day with the period.
-    pub fn meet(&self, days: Period, fits: impl Fn(&Link) -> bool) -> bool {
-        self.rows.iter().any(|link| link.days.shares_day(days) && fits(link))
+    pub fn meet(self, days: Period, fits: impl Fn(Standing) -> bool) -> bool {
+        self.list_meets(self.default, days, &fits) || self.list_meets(self.alternative, days, &fits)
+    }
+
+    /// Whether a link with flag 1 that fits shares a day with the period.
+    pub fn defaults_meet(self, days: Period, fits: impl Fn(Standing) -> bool) -> bool {
+        self.list_meets(self.default, days, fits)
     }
 
     /// Whether each day of a period has a link with flag 1: from the first day on, such a link leads to the day behind
     /// its last.
-    pub fn have_default_throughout(&self, days: Period) -> bool {
+    pub fn have_default_throughout(self, days: Period) -> bool {
         let mut day = days.first;
-        while let Some(link) = self.default_on(day) {
-            if link.days.last >= days.last {
+        loop {
+            let row = self.default_on(day);
+            if row.standing == Standing::NoLink {
+                return false;
+            }
+            if row.days.last >= days.last {
                 return true;
             }
-            day = link.days.last + 1;
+            day = row.days.last + 1;
+        }
+    }
+
+    /// The link of a day with flag 1. The row behind the oldest has every day, and ends the search.
+    #[inline(always)]
+    fn default_on(&self, day: Day) -> &Row {
+        let mut row = self.row(self.default);
+        while !row.days.contains(day) {
+            row = self.row(row.older);
+        }
+        row
+    }
+
+    fn list_meets(self, newest: LinkNumber, days: Period, fits: impl Fn(Standing) -> bool) -> bool {
+        let mut number = newest;
+        while number != NO_LINK {
+            let row = self.row(number);
+            if row.days.shares_day(days) && fits(row.standing) {
+                return true;
+            }
+            number = row.older;
         }
         false
+    }
+
+    fn row(&self, number: LinkNumber) -> &Row {
+        &self.rows[usize::from(number)]
     }
 }

@@ -3,20 +3,11 @@
 
 use crate::directory::*;
 use crate::isin;
-use crate::links::Links;
+use crate::links::{Links, LinksOf, Standing};
 use crate::numbers::{AccountNumber, CsdNumber, CsdSet, SecurityNumber};
 use crate::refusal::{require, Refusal};
 
 const NO_ROW: u16 = 0xFFFF;
-
-/// What a CSD in T2S is for a security on a day: an issuer with its issuance account, an investor with the technical
-/// issuer of its default link, or neither.
-#[derive(Clone, Copy, PartialEq, Eq, Debug)]
-pub enum Standing {
-    Issuer(AccountNumber),
-    Investor(CsdNumber),
-    NoLink,
-}
 
 #[derive(Clone)]
 pub struct Register {
@@ -26,8 +17,7 @@ pub struct Register {
     paired: [u16; ACCOUNTS],
     /// By served account and technical issuer.
     pair_numbers: [[u16; CSDS]; ACCOUNTS],
-    /// By security and CSD.
-    links: [[Links; CSDS]; SECURITIES],
+    links: Links,
 }
 
 impl Default for Register {
@@ -37,7 +27,7 @@ impl Default for Register {
             external: CsdSet::default(),
             paired: [NO_ROW; ACCOUNTS],
             pair_numbers: [[NO_ROW; CSDS]; ACCOUNTS],
-            links: Default::default(),
+            links: Links::default(),
         }
     }
 }
@@ -108,17 +98,13 @@ impl Register {
     }
 
     /// The links of a CSD for a security, of all days.
-    pub fn links(&self, security: SecurityNumber, csd: CsdNumber) -> &Links {
-        &self.links[security.index()][csd.index()]
+    pub fn links(&self, security: SecurityNumber, csd: CsdNumber) -> LinksOf<'_> {
+        self.links.of(security, csd)
     }
 
-    /// What a CSD in T2S is for a security on a day.
-    pub fn standing(&self, security: SecurityNumber, csd: CsdNumber, day: Day) -> Standing {
-        match self.links(security, csd).default_on(day) {
-            None => Standing::NoLink,
-            Some(link) if link.kind == ISSUER => Standing::Issuer(AccountNumber(link.account)),
-            Some(link) => Standing::Investor(CsdNumber(link.technical)),
-        }
+    /// The CSDs that have a link for a security to this one on any day.
+    pub fn pointing_to(&self, security: SecurityNumber, technical: CsdNumber) -> CsdSet {
+        self.links.pointing_to(security, technical)
     }
 }
 
@@ -214,7 +200,7 @@ impl Register {
         require(link.kind <= INVESTOR && link.flag <= DEFAULT, Refusal::OutsideRange)?;
 
         let links = self.links(security, csd);
-        let entered = technical.is_some() && links.meet(link.days, |other| other.technical == link.technical);
+        let entered = technical.is_some() && links.meet(link.days, |other| other.technical() == technical);
         require(!entered, Refusal::AlreadyEntered)?;
 
         let issuance_fits = |account| self.account_csd(account) == csd && self.account_kind(account) == ISSUANCE;
@@ -228,7 +214,12 @@ impl Register {
         };
         require(account_fits && link_fits, Refusal::RuleBroken)?;
 
-        self.links[security.index()][csd.index()].push(link);
+        let standing = match technical {
+            None => Standing::Issuer(AccountNumber(link.account)),
+            Some(technical) if self.is_external(technical) => Standing::InvestorOutside(technical),
+            Some(technical) => Standing::Investor(technical),
+        };
+        self.links.push(security, csd, link.flag, standing, link.days);
         self.directory.links.push(link);
         Ok(())
     }
@@ -236,12 +227,13 @@ impl Register {
     /// "The rules on one default [...] and issuer links are judged wherever two periods share a day; an alternative needs
     /// a default on each of its days", and joins two CSDs in T2S.
     fn investor_fits(&self, csd: CsdNumber, technical: CsdNumber, link: &Link) -> bool {
-        let links = &self.links[usize::from(link.security)][csd.index()];
+        let links = self.links(SecurityNumber(link.security), csd);
         if link.flag == DEFAULT {
-            return !links.meet(link.days, |other| other.flag == DEFAULT);
+            return !links.defaults_meet(link.days, |_| true);
         }
         let inside = !self.is_external(csd) && !self.is_external(technical);
-        inside && !links.meet(link.days, |other| other.kind == ISSUER) && links.have_default_throughout(link.days)
+        let issuer = |other| matches!(other, Standing::Issuer(_));
+        inside && !links.defaults_meet(link.days, issuer) && links.have_default_throughout(link.days)
     }
 
     /// An account number that names a row, or FFFF where no row is due.

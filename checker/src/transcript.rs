@@ -1,7 +1,7 @@
 //! The program: a stream of commands over an empty store, and the text it prints.
 
 use crate::booking::{cash_total, Cash, Cents, Direction, Halves, Positions, Units};
-use crate::chain::Steps;
+use crate::chain::{Step, Steps};
 use crate::command::{Command, Reader};
 use crate::directory::{ACCOUNTS, SECURITIES};
 use crate::refusal::Refusal;
@@ -11,11 +11,12 @@ use crate::text::Text;
 /// "Above 65,536 bytes it prints `too long` only."
 pub const INPUT_LIMIT: usize = 65_536;
 
-/// What an accepted command answers.
+/// What an accepted command answers. The steps of a chain are left with the session.
+#[derive(Clone, Copy, PartialEq, Eq, Debug)]
 pub enum Done {
     Accepted,
-    Booked(Steps),
-    Chain(Steps),
+    Booked,
+    Chain,
 }
 
 /// A directory, its positions and its cash, started empty and changed by commands only. Its
@@ -24,6 +25,7 @@ pub struct Session {
     register: Register,
     positions: Box<Positions>,
     cash: Box<Cash>,
+    steps: Steps,
 }
 
 impl Default for Session {
@@ -32,6 +34,7 @@ impl Default for Session {
             register: Register::default(),
             positions: Box::new([Units(0); ACCOUNTS * SECURITIES]),
             cash: Box::new([Cents(0); ACCOUNTS]),
+            steps: Steps::default(),
         }
     }
 }
@@ -49,8 +52,13 @@ impl Session {
         &self.cash
     }
 
+    /// The steps of the chain that was booked or derived last.
+    pub fn steps(&self) -> &[Step] {
+        &self.steps
+    }
+
     pub fn execute(&mut self, command: &Command) -> Result<Done, Refusal> {
-        let Session { register, positions, cash } = self;
+        let Session { register, positions, cash, steps } = self;
         match *command {
             Command::EnterCsd(row) => register.enter_csd(row)?,
             Command::EnterSecurity(row) => register.enter_security(row)?,
@@ -66,16 +74,20 @@ impl Session {
             Command::PayIn { account, amount } => register.move_cash(cash, Direction::In, account, amount)?,
             Command::PayOut { account, amount } => register.move_cash(cash, Direction::Out, account, amount)?,
             Command::Settle { ref delivering, ref receiving, day } => {
-                return register.settle(positions, cash, Halves::by_place(delivering, receiving), day).map(Done::Booked)
-            }
-            Command::Derive { ref delivering, ref receiving, day } => {
-                return register.derive_halves(Halves::by_place(delivering, receiving), day).map(Done::Chain)
+                register.settle(positions, cash, Halves::by_place(delivering, receiving), day, steps)?;
+                return Ok(Done::Booked);
             }
             Command::SettleSided { ref first, ref second, day } => {
-                return register.settle(positions, cash, Halves::by_side(first, second), day).map(Done::Booked)
+                register.settle(positions, cash, Halves::by_side(first, second), day, steps)?;
+                return Ok(Done::Booked);
+            }
+            Command::Derive { ref delivering, ref receiving, day } => {
+                register.derive_halves(Halves::by_place(delivering, receiving), day, steps)?;
+                return Ok(Done::Chain);
             }
             Command::DeriveSided { ref first, ref second, day } => {
-                return register.derive_halves(Halves::by_side(first, second), day).map(Done::Chain)
+                register.derive_halves(Halves::by_side(first, second), day, steps)?;
+                return Ok(Done::Chain);
             }
         }
         Ok(Done::Accepted)
@@ -112,8 +124,8 @@ pub fn transcript(input: &[u8]) -> Vec<u8> {
         };
         match answer {
             Ok(Done::Accepted) => text.accepted(number),
-            Ok(Done::Booked(steps)) => text.chain(number, b" booked ", &steps),
-            Ok(Done::Chain(steps)) => text.chain(number, b" chain ", &steps),
+            Ok(Done::Booked) => text.chain(number, b" booked ", session.steps()),
+            Ok(Done::Chain) => text.chain(number, b" chain ", session.steps()),
             Err(refusal) => {
                 text.refused(number, refusal.number());
                 if matches!(refusal, Refusal::UnknownCommand | Refusal::CutShort) {

@@ -1,8 +1,9 @@
 //! Walks over the links that a security has on a day.
 
 use crate::directory::Day;
+use crate::links::Standing;
 use crate::numbers::{AccountNumber, CsdNumber, CsdSet, SecurityNumber};
-use crate::register::{Register, Standing};
+use crate::register::Register;
 
 /// "A side names at most 8 CSDs, start and external end counted."
 pub const SIDE: usize = 8;
@@ -15,19 +16,6 @@ pub struct Side {
 }
 
 impl Side {
-    fn empty() -> Side {
-        Side { csds: [CsdNumber(0); SIDE], length: 0 }
-    }
-
-    fn push(&mut self, csd: CsdNumber) {
-        self.csds[self.length] = csd;
-        self.length += 1;
-    }
-
-    fn is_full(&self) -> bool {
-        self.length == SIDE
-    }
-
     pub fn csds(&self) -> &[CsdNumber] {
         &self.csds[..self.length]
     }
@@ -55,53 +43,51 @@ impl Walk {
     pub fn arrives(&self) -> bool {
         matches!(self.end, WalkEnd::Inside(_) | WalkEnd::Outside(_))
     }
+
+    /// Its CSDs up to the first that it shares with a walk that it meets. Walks that meet go on together, so that all
+    /// that they share stands at their ends.
+    pub fn up_to_shared(&self, other: &Walk) -> &[CsdNumber] {
+        let beyond = self.named.shared_with(other.named).saturating_sub(1);
+        &self.side.csds[..self.side.length.saturating_sub(beyond)]
+    }
 }
 
 impl Register {
     /// The default walk from a CSD in T2S.
     pub fn default_walk(&self, security: SecurityNumber, start: CsdNumber, day: Day) -> Walk {
-        let mut side = Side::empty();
+        let mut csds = [CsdNumber::default(); SIDE];
         let mut named = CsdSet::default();
         let mut csd = start;
-        let end = loop {
-            if self.is_external(csd) {
-                break WalkEnd::Outside(csd);
-            }
-            side.push(csd);
+        for place in 0..SIDE {
+            csds[place] = csd;
             named.insert(csd);
-            match self.standing(security, csd, day) {
-                Standing::Issuer(issuance) => break WalkEnd::Inside(issuance),
-                Standing::NoLink => break WalkEnd::NoLink,
-                Standing::Investor(_) if side.is_full() => break WalkEnd::TooLong,
-                Standing::Investor(technical) => csd = technical,
-            }
-        };
-        Walk { side, named, end }
+            let end = match self.links(security, csd).standing(day) {
+                Standing::Investor(technical) => {
+                    csd = technical;
+                    continue;
+                }
+                Standing::InvestorOutside(technical) if place + 1 < SIDE => WalkEnd::Outside(technical),
+                Standing::InvestorOutside(_) => WalkEnd::TooLong,
+                Standing::Issuer(issuance) => WalkEnd::Inside(issuance),
+                Standing::NoLink => WalkEnd::NoLink,
+            };
+            return Walk { side: Side { csds, length: place + 1 }, named, end };
+        }
+        Walk { side: Side { csds, length: SIDE }, named, end: WalkEnd::TooLong }
     }
 
-    /// The directed walk from a CSD in T2S to another, target included, where it reaches.
-    pub fn directed_walk(
-        &self,
-        security: SecurityNumber,
-        start: CsdNumber,
-        target: CsdNumber,
-        day: Day,
-    ) -> Option<Side> {
-        let mut side = Side::empty();
-        let mut csd = start;
-        loop {
-            side.push(csd);
-            if side.is_full() {
-                return None;
-            }
-            if self.links(security, csd).point_to(target, day) {
-                side.push(target);
-                return Some(side);
-            }
-            match self.standing(security, csd, day) {
-                Standing::Investor(technical) if !self.is_external(technical) => csd = technical,
-                _ => return None,
-            }
+    /// The directed walk to another CSD, target included, where it reaches. It is the default walk from the same start
+    /// as far as the first CSD with a link to the target.
+    pub fn directed_walk(&self, security: SecurityNumber, walk: &Walk, target: CsdNumber, day: Day) -> Option<Side> {
+        let pointing = self.pointing_to(security, target);
+        if !walk.named.meets(pointing) {
+            return None;
         }
+        let points = |&csd: &CsdNumber| pointing.contains(csd) && self.links(security, csd).point_to(target, day);
+        let named = walk.side.csds().iter().position(points)? + 1;
+        let mut side = walk.side.clone();
+        *side.csds.get_mut(named)? = target;
+        side.length = named + 1;
+        Some(side)
     }
 }

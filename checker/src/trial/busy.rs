@@ -213,10 +213,9 @@ mod tests {
             for (steps, turn) in (1..=16).flat_map(|steps| [0, 1, 2, 3, 4, 5, 6, 9, 63].map(|turn| (steps, turn))) {
                 let (from, to) = market.trade_in_turn(steps, turn);
                 market.scenario.day = DAYS[turn % DAYS.len()];
-                let Ok(Done::Booked(chain)) = market.scenario.settle(from, to, market.security, 1, 0) else {
-                    panic!("no chain of {steps} in turn {turn}");
-                };
-                assert_eq!(chain.len(), steps);
+                let answer = market.scenario.settle(from, to, market.security, 1, 0);
+                assert_eq!(answer, Ok(Done::Booked), "no chain of {steps} in turn {turn}");
+                assert_eq!(market.scenario.session.steps().len(), steps);
             }
         }
     }
