@@ -105,29 +105,31 @@ impl Session {
     }
 }
 
+/// No answer prints more bytes for a byte that it reads: 224 for the 43 of a chain of 16 steps are the most.
+const PRINTED_PER_BYTE: usize = 6;
+
 /// All that `realign` prints for an input.
 pub fn transcript(input: &[u8]) -> Vec<u8> {
-    let mut text = Text::default();
     if input.len() > INPUT_LIMIT {
+        let mut text = Text::with_room(0);
         text.too_long();
-        return text.bytes;
+        return text.into_bytes();
     }
+    let mut text = Text::with_room(PRINTED_PER_BYTE * input.len());
     let mut session = Session::default();
     let mut reader = Reader::new(input);
-    let mut number = 0;
     while reader.peek().is_some() {
-        number += 1;
         // Borrowed, since a move would copy all of the command.
         let answer = match &reader.command() {
             Ok(command) => session.execute(command),
             Err(refusal) => Err(*refusal),
         };
         match answer {
-            Ok(Done::Accepted) => text.accepted(number),
-            Ok(Done::Booked) => text.chain(number, b" booked ", session.steps()),
-            Ok(Done::Chain) => text.chain(number, b" chain ", session.steps()),
+            Ok(Done::Accepted) => text.accepted(),
+            Ok(Done::Booked) => text.chain(b" booked ", session.steps()),
+            Ok(Done::Chain) => text.chain(b" chain ", session.steps()),
             Err(refusal) => {
-                text.refused(number, refusal.number());
+                text.refused(refusal.number());
                 if matches!(refusal, Refusal::UnknownCommand | Refusal::CutShort) {
                     break;
                 }
@@ -135,5 +137,5 @@ pub fn transcript(input: &[u8]) -> Vec<u8> {
         }
     }
     session.print_totals(&mut text);
-    text.bytes
+    text.into_bytes()
 }
