@@ -38,93 +38,165 @@ impl<'a> Reader<'a> {
 
     /// The next command, or 1 or 2.
     pub fn command(&mut self) -> Result<Command, Refusal> {
-        Ok(match self.byte()? {
-            0x01 => Command::EnterCsd(Csd { kind: self.byte()?, bic: self.bytes()? }),
-            0x02 => Command::EnterSecurity(Security { isin: self.bytes()? }),
-            0x03 => Command::EnterAccount(Account { csd: self.byte()?, kind: self.byte()? }),
-            0x05 => Command::EnterLink(Link {
-                security: self.byte()?,
-                kind: self.byte()?,
-                csd: self.byte()?,
-                technical: self.byte()?,
-                flag: self.byte()?,
-                account: self.account()?,
-                days: Period { first: self.day()?, last: self.day()? },
-            }),
-            0x06 => Command::BringIn {
-                account: self.account()?,
-                security: self.byte()?,
-                quantity: self.units()?,
-                day: self.day()?,
-            },
-            0x07 => Command::TakeOut {
-                account: self.account()?,
-                security: self.byte()?,
-                quantity: self.units()?,
-                day: self.day()?,
-            },
-            0x08 => Command::PayIn { account: self.account()?, amount: self.cents()? },
-            0x09 => Command::PayOut { account: self.account()?, amount: self.cents()? },
-            0x0A => Command::Settle { delivering: self.half()?, receiving: self.half()?, day: self.day()? },
-            0x0B => Command::Derive { delivering: self.half()?, receiving: self.half()?, day: self.day()? },
-            0x0C => Command::SettleSided { first: self.sided_half()?, second: self.sided_half()?, day: self.day()? },
-            0x0D => Command::DeriveSided { first: self.sided_half()?, second: self.sided_half()?, day: self.day()? },
-            0x0E => Command::EnterPair(Pair {
-                investor: self.byte()?,
-                technical: self.byte()?,
-                investor_account: self.account()?,
-                technical_account: self.account()?,
-                served: self.account()?,
-            }),
+        self.hand_over(|command| *command)
+    }
+
+    /// Hands the next command to one who takes it, or gives 1 or 2. All of this is inlined: where the taker is inlined
+    /// too, each case knows its command, and fields are used as they are read.
+    #[inline(always)]
+    pub fn hand_over<Answer>(&mut self, take: impl FnOnce(&Command) -> Answer) -> Result<Answer, Refusal> {
+        let (&code, rest) = self.rest.split_first().ok_or(Refusal::CutShort)?;
+        self.rest = rest;
+        Ok(match code {
+            0x01 => take(&Command::EnterCsd(self.operands::<12>()?.csd())),
+            0x02 => take(&Command::EnterSecurity(Security { isin: self.operands::<12>()?.bytes() })),
+            0x03 => take(&Command::EnterAccount(self.operands::<2>()?.account())),
+            0x05 => take(&Command::EnterLink(self.operands::<11>()?.link())),
+            0x06 => take(&self.operands::<13>()?.bring_in()),
+            0x07 => take(&self.operands::<13>()?.take_out()),
+            0x08 => take(&self.operands::<10>()?.pay_in()),
+            0x09 => take(&self.operands::<10>()?.pay_out()),
+            0x0A => take(&self.operands::<42>()?.settle()),
+            0x0B => take(&self.operands::<42>()?.derive()),
+            0x0C => take(&self.operands::<44>()?.settle_sided()),
+            0x0D => take(&self.operands::<44>()?.derive_sided()),
+            0x0E => take(&Command::EnterPair(self.operands::<8>()?.pair())),
             _ => return Err(Refusal::UnknownCommand),
         })
     }
 
-    fn piece<const WIDTH: usize>(&mut self) -> Result<&'a [u8; WIDTH], Refusal> {
-        let (piece, rest) = self.rest.split_first_chunk().ok_or(Refusal::CutShort)?;
-        self.rest = rest;
-        Ok(piece)
-    }
-
-    fn bytes<const WIDTH: usize>(&mut self) -> Result<[u8; WIDTH], Refusal> {
-        self.piece().copied()
-    }
-
-    fn byte(&mut self) -> Result<u8, Refusal> {
-        self.bytes().map(|[byte]| byte)
-    }
-
-    fn account(&mut self) -> Result<u16, Refusal> {
-        self.bytes().map(u16::from_be_bytes)
-    }
-
-    fn day(&mut self) -> Result<Day, Refusal> {
-        self.bytes().map(Day::from_be_bytes)
-    }
-
-    fn units(&mut self) -> Result<Units, Refusal> {
-        self.bytes().map(i64::from_be_bytes).map(Units)
-    }
-
-    fn cents(&mut self) -> Result<Cents, Refusal> {
-        self.bytes().map(i64::from_be_bytes).map(Cents)
-    }
-
-    /// A half is taken whole, so that its fields need no test each, and inlined, so that they are written once.
+    /// The operands of a command are taken whole, so that their fields need no test each.
     #[inline(always)]
-    fn half(&mut self) -> Result<Half, Refusal> {
-        let mut fields = Reader::new(self.piece::<20>()?);
-        Ok(Half {
-            account: fields.account()?,
-            counterpart: fields.byte()?,
-            security: fields.byte()?,
-            quantity: fields.units()?,
-            amount: fields.cents()?,
-        })
+    fn operands<const WIDTH: usize>(&mut self) -> Result<Operands<'a>, Refusal> {
+        let (operands, rest) = self.rest.split_first_chunk::<WIDTH>().ok_or(Refusal::CutShort)?;
+        self.rest = rest;
+        Ok(Operands { rest: operands })
+    }
+}
+
+/// The operands of one command, as many bytes as it has.
+struct Operands<'a> {
+    rest: &'a [u8],
+}
+
+impl Operands<'_> {
+    #[inline(always)]
+    fn bytes<const WIDTH: usize>(&mut self) -> [u8; WIDTH] {
+        let (bytes, rest) = self.rest.split_first_chunk().expect("a command has all its operands");
+        self.rest = rest;
+        *bytes
     }
 
-    fn sided_half(&mut self) -> Result<SidedHalf, Refusal> {
-        Ok(SidedHalf { side: self.byte()?, half: self.half()? })
+    #[inline(always)]
+    fn byte(&mut self) -> u8 {
+        let [byte] = self.bytes();
+        byte
+    }
+
+    /// An account or a day.
+    #[inline(always)]
+    fn number(&mut self) -> u16 {
+        u16::from_be_bytes(self.bytes())
+    }
+
+    #[inline(always)]
+    fn units(&mut self) -> Units {
+        Units(i64::from_be_bytes(self.bytes()))
+    }
+
+    #[inline(always)]
+    fn cents(&mut self) -> Cents {
+        Cents(i64::from_be_bytes(self.bytes()))
+    }
+
+    #[inline(always)]
+    fn csd(&mut self) -> Csd {
+        Csd { kind: self.byte(), bic: self.bytes() }
+    }
+
+    #[inline(always)]
+    fn account(&mut self) -> Account {
+        Account { csd: self.byte(), kind: self.byte() }
+    }
+
+    #[inline(always)]
+    fn pair(&mut self) -> Pair {
+        Pair {
+            investor: self.byte(),
+            technical: self.byte(),
+            investor_account: self.number(),
+            technical_account: self.number(),
+            served: self.number(),
+        }
+    }
+
+    #[inline(always)]
+    fn link(&mut self) -> Link {
+        Link {
+            security: self.byte(),
+            kind: self.byte(),
+            csd: self.byte(),
+            technical: self.byte(),
+            flag: self.byte(),
+            account: self.number(),
+            days: Period { first: self.number(), last: self.number() },
+        }
+    }
+
+    #[inline(always)]
+    fn half(&mut self) -> Half {
+        Half {
+            account: self.number(),
+            counterpart: self.byte(),
+            security: self.byte(),
+            quantity: self.units(),
+            amount: self.cents(),
+        }
+    }
+
+    #[inline(always)]
+    fn sided_half(&mut self) -> SidedHalf {
+        SidedHalf { side: self.byte(), half: self.half() }
+    }
+
+    #[inline(always)]
+    fn bring_in(&mut self) -> Command {
+        Command::BringIn { account: self.number(), security: self.byte(), quantity: self.units(), day: self.number() }
+    }
+
+    #[inline(always)]
+    fn take_out(&mut self) -> Command {
+        Command::TakeOut { account: self.number(), security: self.byte(), quantity: self.units(), day: self.number() }
+    }
+
+    #[inline(always)]
+    fn pay_in(&mut self) -> Command {
+        Command::PayIn { account: self.number(), amount: self.cents() }
+    }
+
+    #[inline(always)]
+    fn pay_out(&mut self) -> Command {
+        Command::PayOut { account: self.number(), amount: self.cents() }
+    }
+
+    #[inline(always)]
+    fn settle(&mut self) -> Command {
+        Command::Settle { delivering: self.half(), receiving: self.half(), day: self.number() }
+    }
+
+    #[inline(always)]
+    fn derive(&mut self) -> Command {
+        Command::Derive { delivering: self.half(), receiving: self.half(), day: self.number() }
+    }
+
+    #[inline(always)]
+    fn settle_sided(&mut self) -> Command {
+        Command::SettleSided { first: self.sided_half(), second: self.sided_half(), day: self.number() }
+    }
+
+    #[inline(always)]
+    fn derive_sided(&mut self) -> Command {
+        Command::DeriveSided { first: self.sided_half(), second: self.sided_half(), day: self.number() }
     }
 }
 

@@ -57,6 +57,7 @@ impl Session {
         &self.steps
     }
 
+    #[inline(always)]
     pub fn execute(&mut self, command: &Command) -> Result<Done, Refusal> {
         let Session { register, positions, cash, steps } = self;
         match *command {
@@ -119,12 +120,7 @@ pub fn transcript(input: &[u8]) -> Vec<u8> {
     let mut session = Session::default();
     let mut reader = Reader::new(input);
     while reader.peek().is_some() {
-        // Borrowed, since a move would copy all of the command.
-        let answer = match &reader.command() {
-            Ok(command) => session.execute(command),
-            Err(refusal) => Err(*refusal),
-        };
-        match answer {
+        match reader.hand_over(|command| session.execute(command)).flatten() {
             Ok(Done::Accepted) => text.accepted(),
             Ok(Done::Booked) => text.chain(b" booked ", session.steps()),
             Ok(Done::Chain) => text.chain(b" chain ", session.steps()),
