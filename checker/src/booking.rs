@@ -1,7 +1,7 @@
 //! Positions and cash: what a call may change, judged on the numbers before it, and the change.
 
-use crate::chain::{Step, Steps};
-use crate::directory::{Day, ACCOUNTS, PARTICIPANT, SECURITIES};
+use crate::chain::{Chain, Leg};
+use crate::directory::{Day, ACCOUNTS, SECURITIES};
 use crate::links::Standing;
 use crate::numbers::{AccountNumber, SecurityNumber};
 use crate::refusal::{require, Refusal};
@@ -122,9 +122,9 @@ pub enum Direction {
 impl Register {
     /// Leaves the chain of two halves on a day, or gives the refusal of these or of the chain.
     #[inline(always)]
-    pub fn derive_halves(&self, halves: Halves, day: Day, steps: &mut Steps) -> Result<(), Refusal> {
+    pub fn derive_halves(&self, halves: Halves, day: Day, chain: &mut Chain) -> Result<(), Refusal> {
         let instruction = self.instruction(halves)?;
-        self.derive(instruction.security, instruction.delivering, instruction.receiving, day, steps)
+        self.derive(instruction.security, instruction.delivering, instruction.receiving, day, chain)
     }
 
     /// Books the chain of two halves on a day and their cash, or gives the refusal and changes neither.
@@ -135,11 +135,11 @@ impl Register {
         cash: &mut Cash,
         halves: Halves,
         day: Day,
-        steps: &mut Steps,
+        chain: &mut Chain,
     ) -> Result<(), Refusal> {
         let instruction = self.instruction(halves)?;
-        self.derive(instruction.security, instruction.delivering, instruction.receiving, day, steps)?;
-        book(positions, cash, &instruction, steps)
+        self.derive(instruction.security, instruction.delivering, instruction.receiving, day, chain)?;
+        book(positions, cash, &instruction, chain)
     }
 
     /// Brings a quantity in on a participant account against its CSD's source on a day, or takes it out.
@@ -155,7 +155,7 @@ impl Register {
         let account = self.account(account)?;
         let security = self.security(security)?;
         require((1..=BOUND).contains(&quantity.0), Refusal::OutsideRange)?;
-        require(self.account_kind(account) == PARTICIPANT, Refusal::WrongAccount)?;
+        require(self.is_participant(account), Refusal::WrongAccount)?;
         let own = position(account, security);
         let source = position(self.source(security, account, day)?, security);
         (positions[own], positions[source]) = match direction {
@@ -172,7 +172,7 @@ impl Register {
     pub fn move_cash(&self, cash: &mut Cash, direction: Direction, account: u16, amount: Cents) -> Result<(), Refusal> {
         let account = self.account(account)?;
         require((1..=BOUND).contains(&amount.0), Refusal::OutsideRange)?;
-        require(self.account_kind(account) == PARTICIPANT, Refusal::WrongAccount)?;
+        require(self.is_participant(account), Refusal::WrongAccount)?;
         let balance = &mut cash[account.index()];
         *balance = match direction {
             Direction::In => balance.plus(amount)?,
@@ -187,9 +187,7 @@ impl Register {
     /// The sum of participant positions in a security, or 6 or 22.
     pub fn total(&self, positions: &Positions, security: u8) -> Result<i64, Refusal> {
         let security = self.security(security)?;
-        let accounts = 0..self.directory().accounts.count as u16;
-        let participants = accounts.map(AccountNumber).filter(|&account| self.account_kind(account) == PARTICIPANT);
-        participants.map(|account| positions[position(account, security)]).try_fold(0, |sum, units| {
+        self.participants().iter().map(|&account| positions[position(account, security)]).try_fold(0, |sum, units| {
             require(units.is_within_bound(), Refusal::BeyondBound)?;
             Ok(sum + units.0)
         })
@@ -208,8 +206,7 @@ impl Register {
         let all_in_range = in_range(delivering) && in_range(receiving) && sides != Sides::OutsideList;
         require(all_in_range, Refusal::OutsideRange)?;
         let (d, r) = (self.account(delivering.account)?, self.account(receiving.account)?);
-        let is_participant = |account| self.account_kind(account) == PARTICIPANT;
-        require(is_participant(d) && is_participant(r), Refusal::WrongAccount)?;
+        require(self.is_participant(d) && self.is_participant(r), Refusal::WrongAccount)?;
         require(sides != Sides::Same, Refusal::SameSide)?;
         let agree = delivering.security == receiving.security
             && delivering.quantity == receiving.quantity
@@ -233,26 +230,25 @@ impl Register {
         match self.links(security, self.account_csd(account)).standing(day) {
             Standing::Issuer(issuance) => Ok(issuance),
             Standing::InvestorOutside(technical) => {
-                let pair = self.pair(technical, account).ok_or(Refusal::NoSource)?;
-                Ok(AccountNumber(pair.investor_account))
+                self.duo(technical, account).map(|duo| duo.near).ok_or(Refusal::NoSource)
             }
             _ => Err(Refusal::NoSource),
         }
     }
 }
 
-/// Moves the quantity along the steps and the amount back, or gives 20, 21 or 22.
-fn book(positions: &mut Positions, cash: &mut Cash, instruction: &Instruction, steps: &Steps) -> Result<(), Refusal> {
+/// Moves the quantity along the chain and the amount back, or gives 20, 21 or 22.
+fn book(positions: &mut Positions, cash: &mut Cash, instruction: &Instruction, chain: &Chain) -> Result<(), Refusal> {
     let Instruction { delivering, receiving, security, quantity, amount } = *instruction;
     let (payee, payer) = (delivering.index(), receiving.index());
     let booked = pay(cash[payee], cash[payer], amount).and_then(|balances| {
-        move_along(positions, security, quantity, steps)?;
+        move_along(positions, security, quantity, chain)?;
         (cash[payee], cash[payer]) = balances;
         Ok(())
     });
     booked.map_err(|refusal| {
-        let is_short = |step: &Step| positions[position(AccountNumber(step.debit), security)] < quantity;
-        if steps.up().iter().any(is_short) {
+        let is_short = |leg: &Leg| positions[position(leg.near, security)] < quantity;
+        if chain.delivering().iter().any(is_short) {
             Refusal::SecuritiesShort
         } else {
             refusal
@@ -271,61 +267,76 @@ fn pay(payee: Cents, payer: Cents, amount: Cents) -> Result<(Cents, Cents), Refu
 
 /// Moves the quantity along all steps, or along none where a number does not allow it. No number is changed by two
 /// steps, so that each is judged as it was before, and the steps made can be taken back.
+#[inline(always)]
 fn move_along(
     positions: &mut Positions,
     security: SecurityNumber,
     quantity: Units,
-    steps: &Steps,
+    chain: &Chain,
 ) -> Result<(), Refusal> {
-    let Units(units) = quantity;
-    let credited = Limits::new(-BOUND - units, BOUND - units);
-    let provided = Limits::new(units, BOUND + units);
-    let unprovided = Limits::new(units - BOUND, BOUND + units);
-    let places = |step: &Step| [step.debit, step.credit].map(|account| position(AccountNumber(account), security));
-    let mut make = |steps: &[Step], debited: Limits| {
-        let made = steps.iter().take_while(|step| {
-            let [debit, credit] = places(step);
-            let allowed = debited.hold(positions[debit]) && credited.hold(positions[credit]);
+    let mut column = Column { positions, security };
+    let (delivering, receiving) = (chain.delivering(), chain.receiving());
+    let up = column.make_all::<0>(delivering, |leg| (leg.near, leg.far), quantity);
+    if up < delivering.len() {
+        column.take_back(&delivering[..up], |leg| (leg.near, leg.far), quantity);
+        return Err(Refusal::BeyondBound);
+    }
+    let down = column.make_all::<{ -BOUND }>(receiving, |leg| (leg.far, leg.near), quantity);
+    if down < receiving.len() {
+        column.take_back(&receiving[..down], |leg| (leg.far, leg.near), quantity);
+        column.take_back(delivering, |leg| (leg.near, leg.far), quantity);
+        return Err(Refusal::BeyondBound);
+    }
+    Ok(())
+}
+
+/// The positions of a security.
+struct Column<'a> {
+    positions: &'a mut Positions,
+    security: SecurityNumber,
+}
+
+impl Column<'_> {
+    fn at(&mut self, account: AccountNumber) -> &mut i64 {
+        &mut self.positions[position(account, self.security)].0
+    }
+
+    /// Makes the steps up to the first that cannot be made, and gives their number. A debited position must not fall
+    /// below a lowest number, and all must end within the bound.
+    #[inline(always)]
+    fn make_all<const LOWEST: i64>(
+        &mut self,
+        legs: &[Leg],
+        accounts: impl Fn(&Leg) -> (AccountNumber, AccountNumber),
+        quantity: Units,
+    ) -> usize {
+        let mut rest = legs.iter();
+        let all = rest.all(|leg| {
+            let (debit, credit) = accounts(leg);
+            let debited = self.at(debit).wrapping_sub(quantity.0);
+            let credited = self.at(credit).wrapping_add(quantity.0);
+            let allowed = lies_within::<LOWEST>(debited) && lies_within::<{ -BOUND }>(credited);
             if allowed {
-                positions[debit].0 -= units;
-                positions[credit].0 += units;
+                *self.at(debit) = debited;
+                *self.at(credit) = credited;
             }
             allowed
         });
-        made.count()
-    };
-    let mut made = make(steps.up(), provided);
-    if made == steps.up().len() {
-        made += make(steps.down(), unprovided);
+        legs.len() - rest.len() - usize::from(!all)
     }
-    if made == steps.len() {
-        return Ok(());
+
+    fn take_back(&mut self, legs: &[Leg], accounts: impl Fn(&Leg) -> (AccountNumber, AccountNumber), quantity: Units) {
+        for (debit, credit) in legs.iter().map(accounts) {
+            *self.at(debit) += quantity.0;
+            *self.at(credit) -= quantity.0;
+        }
     }
-    for step in &steps[..made] {
-        let [debit, credit] = places(step);
-        positions[debit].0 += units;
-        positions[credit].0 -= units;
-    }
-    Err(Refusal::BeyondBound)
 }
 
-/// The positions that a step may change: those that end within the bound, and not below 0 where provision is wanted.
-#[derive(Clone, Copy)]
-struct Limits {
-    lowest: i64,
-    span: u64,
-}
-
-impl Limits {
-    /// From a lowest to a highest number, both within twice the bound.
-    fn new(lowest: i64, highest: i64) -> Limits {
-        Limits { lowest, span: highest.abs_diff(lowest) }
-    }
-
-    /// The difference to a number below the lowest wraps to one beyond any span.
-    fn hold(self, number: Units) -> bool {
-        number.0.wrapping_sub(self.lowest) as u64 <= self.span
-    }
+/// Whether a number lies between a lowest one, 0 or below, and the bound. One below the lowest wraps to one beyond any
+/// bound, and so does one that has wrapped.
+fn lies_within<const LOWEST: i64>(number: i64) -> bool {
+    number.wrapping_sub(LOWEST) as u64 <= (BOUND - LOWEST) as u64
 }
 
 /// The sum of all balances, or 22.

@@ -1,10 +1,10 @@
 //! The chain of a settlement: which CSDs it passes, and the step in the books of each.
 
-use crate::directory::{Day, Pair};
+use crate::directory::Day;
 use crate::numbers::{AccountNumber, CsdNumber, SecurityNumber};
 use crate::refusal::Refusal;
-use crate::register::Register;
-use crate::walk::WalkEnd;
+use crate::register::{Duo, Register};
+use crate::walk::{Side, WalkEnd, SIDE};
 
 /// "K is at most 16."
 pub const STEPS: usize = 16;
@@ -17,32 +17,66 @@ pub struct Step {
     pub credit: u16,
 }
 
-/// The steps of a chain, from the delivering to the receiving side.
+/// The same as a side is climbed: the account towards its participant, and the one towards the other side.
+#[derive(Clone, Copy, Debug, Default)]
+pub struct Leg {
+    pub csd: CsdNumber,
+    pub near: AccountNumber,
+    pub far: AccountNumber,
+}
+
+/// The legs of a side, from its participant. The CSD where both sides meet is the delivering side's.
 #[derive(Clone, Debug, Default)]
-pub struct Steps {
-    list: [Step; STEPS],
+struct Legs {
+    list: [Leg; SIDE],
     length: usize,
-    up: usize,
 }
 
-impl Steps {
-    /// The steps of the delivering side, up to the CSD where both meet: they debit a participant account and omnibus
-    /// accounts.
-    pub fn up(&self) -> &[Step] {
-        &self[..self.up]
-    }
-
-    /// The other steps: they debit mirror, inter-CSD and issuance accounts.
-    pub fn down(&self) -> &[Step] {
-        &self[self.up..]
-    }
-}
-
-impl std::ops::Deref for Steps {
-    type Target = [Step];
-
-    fn deref(&self) -> &[Step] {
+impl Legs {
+    fn get(&self) -> &[Leg] {
         &self.list[..self.length]
+    }
+
+    /// Gives the last leg its far account.
+    fn end(&mut self, far: AccountNumber) {
+        self.list[self.length - 1].far = far;
+    }
+}
+
+/// The steps of a chain.
+#[derive(Clone, Debug, Default)]
+pub struct Chain {
+    delivering: Legs,
+    receiving: Legs,
+}
+
+impl Chain {
+    /// How many steps it has.
+    pub fn length(&self) -> usize {
+        self.delivering.length + self.receiving.length
+    }
+
+    /// The legs that debit the near account, a participant or omnibus account, and credit the far one; in the order of
+    /// steps.
+    pub fn delivering(&self) -> &[Leg] {
+        self.delivering.get()
+    }
+
+    /// The legs that debit the far account, a mirror, inter-CSD or issuance account, and credit the near one; the last
+    /// step first.
+    pub fn receiving(&self) -> &[Leg] {
+        self.receiving.get()
+    }
+
+    /// The steps, from the delivering to the receiving side.
+    pub fn steps(&self) -> impl Iterator<Item = Step> + '_ {
+        let step = |csd: CsdNumber, debit: AccountNumber, credit: AccountNumber| Step {
+            csd: csd.0,
+            debit: debit.0.into(),
+            credit: credit.0.into(),
+        };
+        let delivering = self.delivering().iter().map(move |leg| step(leg.csd, leg.near, leg.far));
+        delivering.chain(self.receiving().iter().rev().map(move |leg| step(leg.csd, leg.far, leg.near)))
     }
 }
 
@@ -56,85 +90,84 @@ enum Meeting {
     Outside(CsdNumber, CsdNumber),
 }
 
-/// The chain that steps 1 to 4 choose, pairs unread. Each side names its CSDs from its participant.
-struct Route<'a> {
-    delivering: &'a [CsdNumber],
-    receiving: &'a [CsdNumber],
+/// The chain that steps 2 to 4 choose, pairs unread. Each side names its CSDs from its participant.
+struct Route {
+    delivering: Side,
+    receiving: Side,
     meeting: Meeting,
 }
 
 impl Register {
-    /// Leaves the steps between two participant accounts on a day, or gives refusal 14 to 18.
+    /// Leaves the chain between two participant accounts on a day, or gives refusal 14 to 18.
     pub fn derive(
         &self,
         security: SecurityNumber,
         delivering: AccountNumber,
         receiving: AccountNumber,
         day: Day,
-        steps: &mut Steps,
+        chain: &mut Chain,
     ) -> Result<(), Refusal> {
         let (d, r) = (self.account_csd(delivering), self.account_csd(receiving));
         if d == r {
-            steps.list[0] = Step { csd: d.0, debit: delivering.0, credit: receiving.0 };
-            (steps.length, steps.up) = (1, 1);
+            chain.delivering.list[0] = Leg { csd: d, near: delivering, far: receiving };
+            (chain.delivering.length, chain.receiving.length) = (1, 0);
             return Ok(());
         }
-        let (from_d, from_r) = (self.default_walk(security, d, day), self.default_walk(security, r, day));
-        let mut climb = |delivering_side, receiving_side, meeting| {
-            let route = Route { delivering: delivering_side, receiving: receiving_side, meeting };
-            self.climb(&route, delivering, receiving, steps)
-        };
-        if from_d.named.meets(from_r.named) && from_d.arrives() && from_r.arrives() {
-            return climb(from_d.up_to_shared(&from_r), from_r.up_to_shared(&from_d), Meeting::Shared);
-        }
-        if let Some(side) = self.directed_walk(security, &from_d, r, day) {
-            return climb(side.csds(), &[r], Meeting::Shared);
-        }
-        if let Some(side) = self.directed_walk(security, &from_r, d, day) {
-            return climb(&[d], side.csds(), Meeting::Shared);
-        }
-        climb(from_d.side.csds(), from_r.side.csds(), judge(from_d.end, from_r.end)?)
-    }
-
-    /// The step of each CSD of a route, or 18. Each side is climbed from its own account upwards: "a step looks up
-    /// the row of the account at its other side".
-    fn climb(
-        &self,
-        route: &Route,
-        delivering: AccountNumber,
-        receiving: AccountNumber,
-        steps: &mut Steps,
-    ) -> Result<(), Refusal> {
-        let (up, down) = (route.delivering.len(), route.receiving.len());
-        let length = up + down - usize::from(matches!(route.meeting, Meeting::Shared));
-        let list = &mut steps.list[..length];
-        let mut debit = delivering;
-        for (hop, step) in route.delivering.windows(2).zip(list.iter_mut()) {
-            let pair = self.pair_or_refusal(hop[1], debit)?;
-            *step = Step { csd: hop[0].0, debit: debit.0, credit: pair.investor_account };
-            debit = AccountNumber(pair.technical_account);
-        }
-        let mut credit = receiving;
-        for (hop, step) in route.receiving.windows(2).zip(list.iter_mut().rev()) {
-            let pair = self.pair_or_refusal(hop[1], credit)?;
-            *step = Step { csd: hop[0].0, debit: pair.investor_account, credit: credit.0 };
-            credit = AccountNumber(pair.technical_account);
-        }
-        let far = match route.meeting {
-            Meeting::Shared => (credit.0, debit.0),
-            Meeting::Issuers(delivering, receiving) => (delivering.0, receiving.0),
-            Meeting::Outside(x, y) => {
-                (self.pair_or_refusal(x, debit)?.investor_account, self.pair_or_refusal(y, credit)?.investor_account)
+        let route = self.route(security, d, r, day)?;
+        let debit = self.climb(&route.delivering, delivering, &mut chain.delivering)?;
+        let credit = self.climb(&route.receiving, receiving, &mut chain.receiving)?;
+        match route.meeting {
+            Meeting::Shared => {
+                chain.delivering.end(credit);
+                chain.receiving.length -= 1;
             }
-        };
-        list[up - 1] = Step { csd: route.delivering[up - 1].0, debit: debit.0, credit: far.0 };
-        list[length - down] = Step { csd: route.receiving[down - 1].0, debit: far.1, credit: credit.0 };
-        (steps.length, steps.up) = (length, up);
+            Meeting::Issuers(delivering, receiving) => {
+                chain.delivering.end(delivering);
+                chain.receiving.end(receiving);
+            }
+            Meeting::Outside(x, y) => {
+                chain.delivering.end(self.duo_or_refusal(x, debit)?.near);
+                chain.receiving.end(self.duo_or_refusal(y, credit)?.near);
+            }
+        }
         Ok(())
     }
 
-    fn pair_or_refusal(&self, technical: CsdNumber, served: AccountNumber) -> Result<&Pair, Refusal> {
-        self.pair(technical, served).ok_or(Refusal::NoPair)
+    /// The CSDs between two others in T2S, or 14 to 17.
+    #[inline(always)]
+    fn route(&self, security: SecurityNumber, d: CsdNumber, r: CsdNumber, day: Day) -> Result<Route, Refusal> {
+        let (from_d, from_r) = (self.default_walk(security, d, day), self.default_walk(security, r, day));
+        let route = |delivering, receiving, meeting| Ok(Route { delivering, receiving, meeting });
+        if from_d.named.meets(from_r.named) && from_d.arrives() && from_r.arrives() {
+            return route(from_d.up_to_shared(&from_r), from_r.up_to_shared(&from_d), Meeting::Shared);
+        }
+        if let Some(side) = self.directed_walk(security, &from_d, r, day) {
+            return route(side, from_r.side.up_to(1), Meeting::Shared);
+        }
+        if let Some(side) = self.directed_walk(security, &from_r, d, day) {
+            return route(from_d.side.up_to(1), side, Meeting::Shared);
+        }
+        route(from_d.side, from_r.side, judge(from_d.end, from_r.end)?)
+    }
+
+    /// The legs of a side from an account upwards, or 18: "a step looks up the row of the account at its other side".
+    /// The last one is left without its far account; the near one is given.
+    #[inline(always)]
+    fn climb(&self, side: &Side, account: AccountNumber, legs: &mut Legs) -> Result<AccountNumber, Refusal> {
+        let csds = side.csds();
+        let mut near = account;
+        for (hop, leg) in csds.windows(2).zip(&mut legs.list) {
+            let duo = self.duo_or_refusal(hop[1], near)?;
+            *leg = Leg { csd: hop[0], near, far: duo.near };
+            near = duo.far;
+        }
+        legs.length = csds.len();
+        legs.list[legs.length - 1] = Leg { csd: csds[legs.length - 1], near, far: near };
+        Ok(near)
+    }
+
+    fn duo_or_refusal(&self, technical: CsdNumber, served: AccountNumber) -> Result<Duo, Refusal> {
+        self.duo(technical, served).ok_or(Refusal::NoPair)
     }
 }
 

@@ -21,6 +21,13 @@ pub enum Command {
     DeriveSided { first: SidedHalf, second: SidedHalf, day: Day },
 }
 
+/// One to whom a reader hands commands.
+pub trait Taker {
+    type Answer;
+
+    fn take(self, command: &Command) -> Self::Answer;
+}
+
 /// A place in the lent bytes, from which commands and their operands are read.
 pub struct Reader<'a> {
     rest: &'a [u8],
@@ -38,29 +45,39 @@ impl<'a> Reader<'a> {
 
     /// The next command, or 1 or 2.
     pub fn command(&mut self) -> Result<Command, Refusal> {
-        self.hand_over(|command| *command)
+        struct Whole;
+
+        impl Taker for Whole {
+            type Answer = Command;
+
+            fn take(self, command: &Command) -> Command {
+                *command
+            }
+        }
+
+        self.hand_over(Whole)
     }
 
     /// Hands the next command to one who takes it, or gives 1 or 2. All of this is inlined: where the taker is inlined
     /// too, each case knows its command, and fields are used as they are read.
     #[inline(always)]
-    pub fn hand_over<Answer>(&mut self, take: impl FnOnce(&Command) -> Answer) -> Result<Answer, Refusal> {
+    pub fn hand_over<T: Taker>(&mut self, taker: T) -> Result<T::Answer, Refusal> {
         let (&code, rest) = self.rest.split_first().ok_or(Refusal::CutShort)?;
         self.rest = rest;
         Ok(match code {
-            0x01 => take(&Command::EnterCsd(self.operands::<12>()?.csd())),
-            0x02 => take(&Command::EnterSecurity(Security { isin: self.operands::<12>()?.bytes() })),
-            0x03 => take(&Command::EnterAccount(self.operands::<2>()?.account())),
-            0x05 => take(&Command::EnterLink(self.operands::<11>()?.link())),
-            0x06 => take(&self.operands::<13>()?.bring_in()),
-            0x07 => take(&self.operands::<13>()?.take_out()),
-            0x08 => take(&self.operands::<10>()?.pay_in()),
-            0x09 => take(&self.operands::<10>()?.pay_out()),
-            0x0A => take(&self.operands::<42>()?.settle()),
-            0x0B => take(&self.operands::<42>()?.derive()),
-            0x0C => take(&self.operands::<44>()?.settle_sided()),
-            0x0D => take(&self.operands::<44>()?.derive_sided()),
-            0x0E => take(&Command::EnterPair(self.operands::<8>()?.pair())),
+            0x01 => taker.take(&Command::EnterCsd(self.operands::<12>()?.csd())),
+            0x02 => taker.take(&Command::EnterSecurity(Security { isin: self.operands::<12>()?.bytes() })),
+            0x03 => taker.take(&Command::EnterAccount(self.operands::<2>()?.account())),
+            0x05 => taker.take(&Command::EnterLink(self.operands::<11>()?.link())),
+            0x06 => taker.take(&self.operands::<13>()?.bring_in()),
+            0x07 => taker.take(&self.operands::<13>()?.take_out()),
+            0x08 => taker.take(&self.operands::<10>()?.pay_in()),
+            0x09 => taker.take(&self.operands::<10>()?.pay_out()),
+            0x0A => taker.take(&self.operands::<42>()?.settle()),
+            0x0B => taker.take(&self.operands::<42>()?.derive()),
+            0x0C => taker.take(&self.operands::<44>()?.settle_sided()),
+            0x0D => taker.take(&self.operands::<44>()?.derive_sided()),
+            0x0E => taker.take(&Command::EnterPair(self.operands::<8>()?.pair())),
             _ => return Err(Refusal::UnknownCommand),
         })
     }

@@ -2,7 +2,7 @@
 //! content. Lists are tested first (3), then soundness (4). A refusal changes nothing lent or handed in.
 
 use crate::booking::{self, Cash, Cents, Direction, Halves, Positions, Units};
-use crate::chain::{Step, Steps, STEPS};
+use crate::chain::{Chain, Step, STEPS};
 use crate::directory::*;
 use crate::refusal::{require, Refusal};
 use crate::register::Register;
@@ -64,7 +64,7 @@ pub fn move_cash(
 /// Writes the steps of the chain into the lent list, and answers how many they are.
 pub fn derive(directory: &Directory, steps: &mut [Step], halves: Halves, day: Day) -> Result<usize, Refusal> {
     require(steps.len() >= STEPS, Refusal::LentList)?;
-    let mut chain = Steps::default();
+    let mut chain = Chain::default();
     Register::of(directory)?.derive_halves(halves, day, &mut chain)?;
     Ok(hand_over(&chain, steps))
 }
@@ -81,7 +81,7 @@ pub fn settle(
     let positions = lent(positions)?;
     let cash = lent(cash)?;
     require(steps.len() >= STEPS, Refusal::LentList)?;
-    let mut chain = Steps::default();
+    let mut chain = Chain::default();
     Register::of(directory)?.settle(positions, cash, halves, day, &mut chain)?;
     Ok(hand_over(&chain, steps))
 }
@@ -103,7 +103,7 @@ fn lent<Number, const LENGTH: usize>(list: &mut [Number]) -> Result<&mut [Number
     list.try_into().map_err(|_| Refusal::LentList)
 }
 
-fn hand_over(chain: &Steps, steps: &mut [Step]) -> usize {
-    steps[..chain.len()].copy_from_slice(chain);
-    chain.len()
+fn hand_over(chain: &Chain, steps: &mut [Step]) -> usize {
+    steps.iter_mut().zip(chain.steps()).for_each(|(row, step)| *row = step);
+    chain.length()
 }

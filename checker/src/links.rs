@@ -24,12 +24,9 @@ impl Standing {
     }
 }
 
-/// The number of a link, from 1 in order of entry. A byte names one of 256 rows, so that no place is tested.
+/// The number of a link in the table of older ones. A byte names one of 256 rows, so that no place is tested.
 type LinkNumber = u8;
 const ROWS: usize = 256;
-
-/// The number of the row behind the oldest link of a list.
-const NO_LINK: LinkNumber = 0;
 
 /// A link, and the one of the same flag that its CSD had last for the security.
 #[derive(Clone, Copy)]
@@ -39,14 +36,21 @@ struct Row {
     older: LinkNumber,
 }
 
+/// Stands behind the oldest link of each list, on every day, and first in the table of older ones.
+const NO_LINK: Row = Row { days: Period::ALWAYS, standing: Standing::NoLink, older: 0 };
+
+/// By security and CSD, the newest link.
+type Newest = [[Row; CSDS]; SECURITIES];
+
 #[derive(Clone)]
 pub struct Links {
-    rows: [Row; ROWS],
-    count: LinkNumber,
-    /// By security and CSD, the newest link with flag 1.
-    defaults: [[LinkNumber; CSDS]; SECURITIES],
-    /// The same with flag 0.
-    alternatives: [[LinkNumber; CSDS]; SECURITIES],
+    /// Links with flag 1, issuer links and default links.
+    defaults: Newest,
+    /// Links with flag 0.
+    alternatives: Newest,
+    /// Links that are not the newest.
+    older: [Row; ROWS],
+    older_count: LinkNumber,
     /// By security and technical issuer, the CSDs with a link to it on any day.
     pointing: [[CsdSet; CSDS]; SECURITIES],
 }
@@ -54,10 +58,10 @@ pub struct Links {
 impl Default for Links {
     fn default() -> Self {
         Links {
-            rows: [Row { days: Period::ALWAYS, standing: Standing::NoLink, older: NO_LINK }; ROWS],
-            count: 0,
-            defaults: Default::default(),
-            alternatives: Default::default(),
+            defaults: [[NO_LINK; CSDS]; SECURITIES],
+            alternatives: [[NO_LINK; CSDS]; SECURITIES],
+            older: [NO_LINK; ROWS],
+            older_count: 0,
             pointing: Default::default(),
         }
     }
@@ -65,9 +69,13 @@ impl Default for Links {
 
 impl Links {
     /// The links of a CSD for a security.
+    #[inline(always)]
     pub fn of(&self, security: SecurityNumber, csd: CsdNumber) -> LinksOf<'_> {
-        let newest = |list: &[[LinkNumber; CSDS]; SECURITIES]| list[security.index()][csd.index()];
-        LinksOf { rows: &self.rows, default: newest(&self.defaults), alternative: newest(&self.alternatives) }
+        LinksOf {
+            default: &self.defaults[security.index()][csd.index()],
+            alternative: &self.alternatives[security.index()][csd.index()],
+            older: &self.older,
+        }
     }
 
     /// The CSDs that have a link for a security to this one on any day.
@@ -84,11 +92,15 @@ impl Links {
         standing: Standing,
         days: Period,
     ) {
-        self.count += 1;
         let lists = if flag == DEFAULT { &mut self.defaults } else { &mut self.alternatives };
         let newest = &mut lists[security.index()][csd.index()];
-        self.rows[usize::from(self.count)] = Row { days, standing, older: *newest };
-        *newest = self.count;
+        let mut older = 0;
+        if newest.standing != Standing::NoLink {
+            self.older_count += 1;
+            older = self.older_count;
+            self.older[usize::from(older)] = *newest;
+        }
+        *newest = Row { days, standing, older };
         if let Some(technical) = standing.technical() {
             self.pointing[security.index()][technical.index()].insert(csd);
         }
@@ -99,9 +111,9 @@ impl Links {
 /// has flag 1.
 #[derive(Clone, Copy)]
 pub struct LinksOf<'a> {
-    rows: &'a [Row; ROWS],
-    default: LinkNumber,
-    alternative: LinkNumber,
+    default: &'a Row,
+    alternative: &'a Row,
+    older: &'a [Row; ROWS],
 }
 
 impl LinksOf<'_> {
@@ -142,29 +154,28 @@ impl LinksOf<'_> {
         }
     }
 
-    /// The link of a day with flag 1. The row behind the oldest has every day, and ends the search.
+    /// The link of a day with flag 1. The row of no link has every day, and ends the search.
     #[inline(always)]
     fn default_on(&self, day: Day) -> &Row {
-        let mut row = self.row(self.default);
+        let mut row = self.default;
         while !row.days.contains(day) {
-            row = self.row(row.older);
+            row = self.older_than(row);
         }
         row
     }
 
-    fn list_meets(self, newest: LinkNumber, days: Period, fits: impl Fn(Standing) -> bool) -> bool {
-        let mut number = newest;
-        while number != NO_LINK {
-            let row = self.row(number);
+    fn list_meets(self, newest: &Row, days: Period, fits: impl Fn(Standing) -> bool) -> bool {
+        let mut row = newest;
+        while row.standing != Standing::NoLink {
             if row.days.shares_day(days) && fits(row.standing) {
                 return true;
             }
-            number = row.older;
+            row = self.older_than(row);
         }
         false
     }
 
-    fn row(&self, number: LinkNumber) -> &Row {
-        &self.rows[usize::from(number)]
+    fn older_than(&self, row: &Row) -> &Row {
+        &self.older[usize::from(row.older)]
     }
 }

@@ -9,8 +9,11 @@ pub struct CsdNumber(pub(crate) u8);
 #[derive(Clone, Copy, PartialEq, Eq, Debug, Default)]
 pub struct SecurityNumber(pub(crate) u8);
 
+/// Of 256 accounts each has a byte.
 #[derive(Clone, Copy, PartialEq, Eq, Debug, Default)]
-pub struct AccountNumber(pub(crate) u16);
+pub struct AccountNumber(pub(crate) u8);
+
+const _: () = assert!(ACCOUNTS == 1 << u8::BITS);
 
 /// The place of a row in a list of all rows. A row's number is below the limit, so that the remainder is the number
 /// itself; it says so to the compiler, which then tests no bounds.
@@ -33,7 +36,7 @@ impl SecurityNumber {
 
 impl AccountNumber {
     pub(crate) fn index(self) -> usize {
-        place(self.0.into(), ACCOUNTS)
+        usize::from(self.0)
     }
 }
 

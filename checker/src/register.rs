@@ -9,10 +9,18 @@ use crate::refusal::{require, Refusal};
 
 const NO_ROW: u16 = 0xFFFF;
 
+/// The accounts of a pair row: mirror and omnibus, or inter-CSD account and none.
+#[derive(Clone, Copy)]
+pub struct Duo {
+    pub near: AccountNumber,
+    pub far: AccountNumber,
+}
+
 #[derive(Clone)]
 pub struct Register {
     directory: Directory,
     external: CsdSet,
+    participants: Table<AccountNumber, ACCOUNTS>,
     /// By account, a pair row that has it as mirror, inter-CSD or omnibus account.
     paired: [u16; ACCOUNTS],
     /// By served account and technical issuer.
@@ -25,6 +33,7 @@ impl Default for Register {
         Register {
             directory: Directory::default(),
             external: CsdSet::default(),
+            participants: Table::default(),
             paired: [NO_ROW; ACCOUNTS],
             pair_numbers: [[NO_ROW; CSDS]; ACCOUNTS],
             links: Links::default(),
@@ -67,23 +76,40 @@ impl Register {
 
     pub fn account(&self, number: u16) -> Result<AccountNumber, Refusal> {
         require(usize::from(number) < self.directory.accounts.count, Refusal::NoRow)?;
-        Ok(AccountNumber(number))
+        Ok(AccountNumber(number as u8))
     }
 
-    pub fn account_kind(&self, account: AccountNumber) -> u8 {
-        self.directory.accounts.rows[account.index()].kind
+    pub fn account_row(&self, account: AccountNumber) -> &Account {
+        &self.directory.accounts.rows[account.index()]
     }
 
     pub fn account_csd(&self, account: AccountNumber) -> CsdNumber {
-        CsdNumber(self.directory.accounts.rows[account.index()].csd)
+        CsdNumber(self.account_row(account).csd)
+    }
+
+    pub fn is_participant(&self, account: AccountNumber) -> bool {
+        self.account_row(account).kind == PARTICIPANT
+    }
+
+    /// The participant accounts, in order of entry.
+    pub fn participants(&self) -> &[AccountNumber] {
+        &self.participants.rows[..self.participants.count]
     }
 
     pub fn is_external(&self, csd: CsdNumber) -> bool {
         self.external.contains(csd)
     }
 
-    /// The pair row of a served account at a technical issuer. The account's CSD is the investor.
-    pub fn pair(&self, technical: CsdNumber, served: AccountNumber) -> Option<&Pair> {
+    /// The accounts through which a served one is held at a technical issuer. Its CSD is the investor.
+    #[inline(always)]
+    pub fn duo(&self, technical: CsdNumber, served: AccountNumber) -> Option<Duo> {
+        let row = self.pair(technical, served)?;
+        Some(Duo { near: AccountNumber(row.investor_account as u8), far: AccountNumber(row.technical_account as u8) })
+    }
+
+    /// The pair row of a served account at a technical issuer.
+    #[inline(always)]
+    fn pair(&self, technical: CsdNumber, served: AccountNumber) -> Option<&Pair> {
         self.pair_row(self.pair_numbers[served.index()][technical.index()])
     }
 
@@ -139,6 +165,9 @@ impl Register {
         let csd = self.csd(account.csd)?;
         require(account.kind <= ISSUANCE, Refusal::OutsideRange)?;
         require(!self.is_external(csd), Refusal::WrongAccount)?;
+        if account.kind == PARTICIPANT {
+            self.participants.push(AccountNumber(self.directory.accounts.count as u8));
+        }
         self.directory.accounts.push(account);
         Ok(())
     }
@@ -153,21 +182,19 @@ impl Register {
         let served = self.account(pair.served)?;
 
         let same_triplet = self.pair(technical, served).is_some_and(|row| row.investor == pair.investor);
-        require(!same_triplet && self.may_share(&pair, near, far), Refusal::AlreadyEntered)?;
+        require(!same_triplet && self.may_share(&pair, near, far, outside), Refusal::AlreadyEntered)?;
 
-        let near_kind = if outside { INTER_CSD } else { MIRROR };
-        let fits = |account, csd, kinds: &[u8]| {
-            self.account_csd(account) == csd && kinds.contains(&self.account_kind(account))
-        };
-        let accounts_fit = fits(near, investor, &[near_kind])
-            && (outside || far.is_some_and(|far| fits(far, technical, &[OMNIBUS])))
-            && fits(served, investor, &[PARTICIPANT, OMNIBUS]);
-        require(accounts_fit, Refusal::WrongAccount)?;
+        let is = |account, csd, kind| *self.account_row(account) == Account { csd, kind };
+        let near_fits = is(near, pair.investor, if outside { INTER_CSD } else { MIRROR });
+        let far_fits = outside || far.is_some_and(|far| is(far, pair.technical, OMNIBUS));
+        let served_fits = is(served, pair.investor, PARTICIPANT) || is(served, pair.investor, OMNIBUS);
+        require(near_fits && far_fits && served_fits, Refusal::WrongAccount)?;
         require(investor != technical && !(outside && far.is_some()), Refusal::RuleBroken)?;
 
         let number = self.directory.pairs.count as u16;
-        for account in [Some(near), far].into_iter().flatten() {
-            self.paired[account.index()] = number;
+        self.paired[near.index()] = number;
+        if let Some(far) = far {
+            self.paired[far.index()] = number;
         }
         self.pair_numbers[served.index()][technical.index()] = number;
         self.directory.pairs.push(pair);
@@ -176,15 +203,16 @@ impl Register {
 
     /// "Rows of the same two CSDs may share both accounts or neither, those with an external issuer the inter-CSD
     /// account alone; other rows share none. A served account doesn't count as shared."
-    fn may_share(&self, pair: &Pair, near: AccountNumber, far: Option<AccountNumber>) -> bool {
-        let first_is_shared = |row: &Pair| {
-            [row.investor, row.technical] == [pair.investor, pair.technical]
-                && row.investor_account == pair.investor_account
+    #[inline(always)]
+    fn may_share(&self, pair: &Pair, near: AccountNumber, far: Option<AccountNumber>, outside: bool) -> bool {
+        let far_is_free = || far.is_none_or(|far| self.pair_with(far).is_none());
+        let Some(row) = self.pair_with(near) else {
+            return far_is_free();
         };
-        let both_are_shared = |row: &Pair| first_is_shared(row) && row.technical_account == pair.technical_account;
-        let second_is_none = |row: &Pair| row.technical_account == NO_ACCOUNT;
-        self.pair_with(near).is_none_or(|row| both_are_shared(row) || first_is_shared(row) && second_is_none(row))
-            && far.and_then(|far| self.pair_with(far)).is_none_or(both_are_shared)
+        let near_is_shared = row.investor == pair.investor
+            && row.technical == pair.technical
+            && row.investor_account == pair.investor_account;
+        near_is_shared && if outside { far_is_free() } else { row.technical_account == pair.technical_account }
     }
 
     pub fn enter_link(&mut self, link: Link) -> Result<(), Refusal> {
@@ -203,7 +231,7 @@ impl Register {
         let entered = technical.is_some() && links.meet(link.days, |other| other.technical() == technical);
         require(!entered, Refusal::AlreadyEntered)?;
 
-        let issuance_fits = |account| self.account_csd(account) == csd && self.account_kind(account) == ISSUANCE;
+        let issuance_fits = |account| *self.account_row(account) == Account { csd: link.csd, kind: ISSUANCE };
         require(!account_due || account.is_some_and(issuance_fits), Refusal::WrongAccount)?;
         require(link.days.has_day(), Refusal::FirstAfterLast)?;
 
@@ -215,7 +243,7 @@ impl Register {
         require(account_fits && link_fits, Refusal::RuleBroken)?;
 
         let standing = match technical {
-            None => Standing::Issuer(AccountNumber(link.account)),
+            None => Standing::Issuer(account.unwrap_or_default()),
             Some(technical) if self.is_external(technical) => Standing::InvestorOutside(technical),
             Some(technical) => Standing::Investor(technical),
         };

@@ -1,13 +1,13 @@
 //! The lines that the program prints, written in place.
 
-use crate::chain::Step;
+use crate::chain::Chain;
 use crate::directory::{ACCOUNTS, CSDS};
 use crate::numbers::{AccountNumber, CsdNumber};
 
 /// Room for the lines of one answer: those of 16 steps are the longest.
 const LINES: usize = 384;
 
-/// All lines so far, and the number of the command that is answered last.
+/// All lines so far, and the number of the command answered last.
 pub struct Text {
     bytes: Vec<u8>,
     length: usize,
@@ -15,9 +15,9 @@ pub struct Text {
 }
 
 impl Text {
-    /// With room for so many bytes from the start. Where they are more, it grows.
+    /// With room for so many bytes, and for two more answers: that to a command cut short, and the last one.
     pub fn with_room(room: usize) -> Text {
-        Text { bytes: vec![0; room + LINES], length: 0, number: Counter::default() }
+        Text { bytes: vec![0; room + 2 * LINES], length: 0, number: Counter::default() }
     }
 
     pub fn into_bytes(mut self) -> Vec<u8> {
@@ -36,17 +36,20 @@ impl Text {
     pub fn refused(&mut self, refusal: u8) {
         self.answer(|lines| {
             lines.word(b" no ");
-            lines.last_field(refusal.into());
+            lines.last_field(refusal);
         });
     }
 
     /// The line of a chain that was booked or derived, and one for each step.
-    pub fn chain<const WIDTH: usize>(&mut self, word: &[u8; WIDTH], steps: &[Step]) {
+    pub fn chain<const WIDTH: usize>(&mut self, word: &[u8; WIDTH], chain: &Chain) {
         self.answer(|lines| {
             lines.word(word);
-            lines.last_field(steps.len());
-            for step in steps {
-                lines.step(step);
+            lines.last_field(chain.length() as u8);
+            for leg in chain.delivering() {
+                lines.step(leg.csd, leg.near, leg.far);
+            }
+            for leg in chain.receiving().iter().rev() {
+                lines.step(leg.csd, leg.far, leg.near);
             }
         });
     }
@@ -79,18 +82,14 @@ impl Text {
 
     #[inline(always)]
     fn lines(&mut self, write: impl FnOnce(&mut Lines)) {
-        if self.bytes.len() - self.length < LINES {
-            self.bytes.resize(2 * self.bytes.len() + LINES, 0);
-        }
-        if let Some(room) = self.bytes[self.length..].first_chunk_mut() {
-            let mut lines = Lines { room, length: 0 };
-            write(&mut lines);
-            self.length += lines.length;
-        }
+        let room = self.bytes[self.length..].first_chunk_mut().expect("there is room for each answer");
+        let mut lines = Lines { room, length: 0 };
+        write(&mut lines);
+        self.length += lines.length;
     }
 }
 
-/// The lines of one answer. They never fill the room.
+/// The lines of one answer.
 struct Lines<'a> {
     room: &'a mut [u8; LINES],
     length: usize,
@@ -100,8 +99,8 @@ impl Lines<'_> {
     /// The bytes behind the lines so far.
     #[inline(always)]
     fn behind<const WIDTH: usize>(&mut self) -> &mut [u8; WIDTH] {
-        let place = self.length.min(LINES - WIDTH);
-        self.room[place..].first_chunk_mut().expect("so many bytes are behind the place")
+        assert!(self.length <= LINES - WIDTH, "an answer has room for its lines");
+        self.room[self.length..].first_chunk_mut().expect("the width was tested")
     }
 
     /// Bytes of which so many count; the next ones are written over the others.
@@ -116,24 +115,23 @@ impl Lines<'_> {
         self.put(word, WIDTH);
     }
 
-    /// A number below 256 and the end of the line.
-    fn last_field(&mut self, number: usize) {
-        let field = LAST_FIELDS[number % FIELDS];
-        self.put(&field.text.to_le_bytes(), field.length());
+    /// A number and the end of the line.
+    #[inline(always)]
+    fn last_field(&mut self, number: u8) {
+        let field = READY.last[usize::from(number)];
+        self.put(&field.text.to_le_bytes(), field.bits as usize / 8);
     }
 
     /// The line of a step, put together from ready pieces of up to 5, 4 and 4 bytes.
     #[inline(always)]
-    fn step(&mut self, step: &Step) {
-        let csd = CsdNumber(step.csd).index();
-        let (debit, credit) = (AccountNumber(step.debit).index(), AccountNumber(step.credit).index());
-        let (debit, credit) = (FIRST_FIELDS[debit], LAST_FIELDS[credit]);
+    fn step(&mut self, csd: CsdNumber, debit: AccountNumber, credit: AccountNumber) {
+        let (debit, credit) = (READY.middle[debit.index()], READY.last[credit.index()]);
         let accounts = u64::from(debit.text) | u64::from(credit.text) << debit.bits;
-        let place = 4 + usize::from(csd > 9);
+        let place = 4 + usize::from(csd.index() > 9);
         let line: &mut [u8; 16] = self.behind();
-        line[..8].copy_from_slice(&STEP_CSDS[csd].to_le_bytes());
+        line[..8].copy_from_slice(&READY.first[csd.index()].to_le_bytes());
         line[place..place + 8].copy_from_slice(&accounts.to_le_bytes());
-        self.length += place + debit.length() + credit.length();
+        self.length += place + (debit.bits + credit.bits) as usize / 8;
     }
 
     fn sum(&mut self, sum: i64) {
@@ -175,53 +173,44 @@ impl Counter {
     }
 }
 
-/// A number below 256 with a byte behind it, little-endian, and its length in bits.
+/// A number of one byte as text, little-endian, with a byte behind it, and the length of both in bits.
 #[derive(Clone, Copy)]
 struct Field {
     text: u32,
     bits: u32,
 }
 
-impl Field {
-    fn length(self) -> usize {
-        self.bits as usize / 8
-    }
+/// The fields of a step's line, ready for each number: a dash and the CSD, a space behind it; the account debited, a
+/// space behind it; the account credited and the end of the line.
+struct Ready {
+    first: [u64; CSDS],
+    middle: [Field; ACCOUNTS],
+    last: [Field; ACCOUNTS],
 }
 
-const FIELDS: usize = 256;
-const _: () = assert!(ACCOUNTS == FIELDS);
+static READY: Ready = {
+    let middle = fields(b' ');
+    let mut first = [0; CSDS];
+    let mut csd = 0;
+    while csd < CSDS {
+        first[csd] = u16::from_le_bytes(*b"- ") as u64 | (middle[csd].text as u64) << 16;
+        csd += 1;
+    }
+    Ready { first, middle, last: fields(b'\n') }
+};
 
-/// Fields with a space behind them, and those that end a line.
-static FIRST_FIELDS: [Field; FIELDS] = fields(b' ');
-static LAST_FIELDS: [Field; FIELDS] = fields(b'\n');
-
-const fn fields(behind: u8) -> [Field; FIELDS] {
-    let mut fields = [Field { text: 0, bits: 0 }; FIELDS];
+const fn fields(behind: u8) -> [Field; ACCOUNTS] {
+    let mut fields = [Field { text: 0, bits: 0 }; ACCOUNTS];
     let mut number = 0;
-    while number < FIELDS {
+    while number < ACCOUNTS {
         let mut field = Field { text: behind as u32, bits: 8 };
-        let mut rest = number;
-        loop {
-            field = Field { text: field.text << 8 | (b'0' as usize + rest % 10) as u32, bits: field.bits + 8 };
+        let mut rest = number as u32;
+        while field.bits == 8 || rest > 0 {
+            field = Field { text: field.text << 8 | (b'0' as u32 + rest % 10), bits: field.bits + 8 };
             rest /= 10;
-            if rest == 0 {
-                break;
-            }
         }
         fields[number] = field;
         number += 1;
     }
     fields
 }
-
-/// How the line of a step starts, by CSD, little-endian.
-static STEP_CSDS: [u64; CSDS] = {
-    let fields = fields(b' ');
-    let mut starts = [0; CSDS];
-    let mut csd = 0;
-    while csd < CSDS {
-        starts[csd] = u16::from_le_bytes(*b"- ") as u64 | (fields[csd].text as u64) << 16;
-        csd += 1;
-    }
-    starts
-};

@@ -1,8 +1,8 @@
 //! The program: a stream of commands over an empty store, and the text it prints.
 
 use crate::booking::{cash_total, Cash, Cents, Direction, Halves, Positions, Units};
-use crate::chain::{Step, Steps};
-use crate::command::{Command, Reader};
+use crate::chain::Chain;
+use crate::command::{Command, Reader, Taker};
 use crate::directory::{ACCOUNTS, SECURITIES};
 use crate::refusal::Refusal;
 use crate::register::Register;
@@ -11,7 +11,7 @@ use crate::text::Text;
 /// "Above 65,536 bytes it prints `too long` only."
 pub const INPUT_LIMIT: usize = 65_536;
 
-/// What an accepted command answers. The steps of a chain are left with the session.
+/// What an accepted command answers. A chain is left with the session.
 #[derive(Clone, Copy, PartialEq, Eq, Debug)]
 pub enum Done {
     Accepted,
@@ -25,7 +25,7 @@ pub struct Session {
     register: Register,
     positions: Box<Positions>,
     cash: Box<Cash>,
-    steps: Steps,
+    chain: Chain,
 }
 
 impl Default for Session {
@@ -34,7 +34,7 @@ impl Default for Session {
             register: Register::default(),
             positions: Box::new([Units(0); ACCOUNTS * SECURITIES]),
             cash: Box::new([Cents(0); ACCOUNTS]),
-            steps: Steps::default(),
+            chain: Chain::default(),
         }
     }
 }
@@ -52,14 +52,14 @@ impl Session {
         &self.cash
     }
 
-    /// The steps of the chain that was booked or derived last.
-    pub fn steps(&self) -> &[Step] {
-        &self.steps
+    /// The chain that was booked or derived last.
+    pub fn chain(&self) -> &Chain {
+        &self.chain
     }
 
     #[inline(always)]
     pub fn execute(&mut self, command: &Command) -> Result<Done, Refusal> {
-        let Session { register, positions, cash, steps } = self;
+        let Session { register, positions, cash, chain } = self;
         match *command {
             Command::EnterCsd(row) => register.enter_csd(row)?,
             Command::EnterSecurity(row) => register.enter_security(row)?,
@@ -75,19 +75,19 @@ impl Session {
             Command::PayIn { account, amount } => register.move_cash(cash, Direction::In, account, amount)?,
             Command::PayOut { account, amount } => register.move_cash(cash, Direction::Out, account, amount)?,
             Command::Settle { ref delivering, ref receiving, day } => {
-                register.settle(positions, cash, Halves::by_place(delivering, receiving), day, steps)?;
+                register.settle(positions, cash, Halves::by_place(delivering, receiving), day, chain)?;
                 return Ok(Done::Booked);
             }
             Command::SettleSided { ref first, ref second, day } => {
-                register.settle(positions, cash, Halves::by_side(first, second), day, steps)?;
+                register.settle(positions, cash, Halves::by_side(first, second), day, chain)?;
                 return Ok(Done::Booked);
             }
             Command::Derive { ref delivering, ref receiving, day } => {
-                register.derive_halves(Halves::by_place(delivering, receiving), day, steps)?;
+                register.derive_halves(Halves::by_place(delivering, receiving), day, chain)?;
                 return Ok(Done::Chain);
             }
             Command::DeriveSided { ref first, ref second, day } => {
-                register.derive_halves(Halves::by_side(first, second), day, steps)?;
+                register.derive_halves(Halves::by_side(first, second), day, chain)?;
                 return Ok(Done::Chain);
             }
         }
@@ -106,6 +106,15 @@ impl Session {
     }
 }
 
+impl Taker for &mut Session {
+    type Answer = Result<Done, Refusal>;
+
+    #[inline(always)]
+    fn take(self, command: &Command) -> Self::Answer {
+        self.execute(command)
+    }
+}
+
 /// No answer prints more bytes for a byte that it reads: 224 for the 43 of a chain of 16 steps are the most.
 const PRINTED_PER_BYTE: usize = 6;
 
@@ -120,10 +129,10 @@ pub fn transcript(input: &[u8]) -> Vec<u8> {
     let mut session = Session::default();
     let mut reader = Reader::new(input);
     while reader.peek().is_some() {
-        match reader.hand_over(|command| session.execute(command)).flatten() {
+        match reader.hand_over(&mut session).flatten() {
             Ok(Done::Accepted) => text.accepted(),
-            Ok(Done::Booked) => text.chain(b" booked ", session.steps()),
-            Ok(Done::Chain) => text.chain(b" chain ", session.steps()),
+            Ok(Done::Booked) => text.chain(b" booked ", session.chain()),
+            Ok(Done::Chain) => text.chain(b" chain ", session.chain()),
             Err(refusal) => {
                 text.refused(refusal.number());
                 if matches!(refusal, Refusal::UnknownCommand | Refusal::CutShort) {

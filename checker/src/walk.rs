@@ -9,7 +9,7 @@ use crate::register::Register;
 pub const SIDE: usize = 8;
 
 /// CSDs in T2S along the links, from the start of a walk.
-#[derive(Clone, Debug)]
+#[derive(Clone, Copy, Debug)]
 pub struct Side {
     csds: [CsdNumber; SIDE],
     length: usize,
@@ -18,6 +18,17 @@ pub struct Side {
 impl Side {
     pub fn csds(&self) -> &[CsdNumber] {
         &self.csds[..self.length]
+    }
+
+    /// So many of its CSDs.
+    pub fn up_to(self, length: usize) -> Side {
+        Side { length: length.min(self.length), ..self }
+    }
+
+    /// So many of its CSDs and one more, where a side has room for it.
+    fn up_to_and(mut self, length: usize, csd: CsdNumber) -> Option<Side> {
+        *self.csds.get_mut(length)? = csd;
+        Some(Side { length: length + 1, ..self })
     }
 }
 
@@ -31,7 +42,7 @@ pub enum WalkEnd {
 }
 
 /// A default walk. An external CSD stands in its end only.
-#[derive(Clone, Debug)]
+#[derive(Clone, Copy, Debug)]
 pub struct Walk {
     pub side: Side,
     pub named: CsdSet,
@@ -46,14 +57,15 @@ impl Walk {
 
     /// Its CSDs up to the first that it shares with a walk that it meets. Walks that meet go on together, so that all
     /// that they share stands at their ends.
-    pub fn up_to_shared(&self, other: &Walk) -> &[CsdNumber] {
-        let beyond = self.named.shared_with(other.named).saturating_sub(1);
-        &self.side.csds[..self.side.length.saturating_sub(beyond)]
+    pub fn up_to_shared(&self, other: &Walk) -> Side {
+        let shared = self.named.shared_with(other.named);
+        self.side.up_to(self.side.length + 1 - shared)
     }
 }
 
 impl Register {
     /// The default walk from a CSD in T2S.
+    #[inline(always)]
     pub fn default_walk(&self, security: SecurityNumber, start: CsdNumber, day: Day) -> Walk {
         let mut csds = [CsdNumber::default(); SIDE];
         let mut named = CsdSet::default();
@@ -78,16 +90,14 @@ impl Register {
 
     /// The directed walk to another CSD, target included, where it reaches. It is the default walk from the same start
     /// as far as the first CSD with a link to the target.
+    #[inline(always)]
     pub fn directed_walk(&self, security: SecurityNumber, walk: &Walk, target: CsdNumber, day: Day) -> Option<Side> {
         let pointing = self.pointing_to(security, target);
         if !walk.named.meets(pointing) {
             return None;
         }
         let points = |&csd: &CsdNumber| pointing.contains(csd) && self.links(security, csd).point_to(target, day);
-        let named = walk.side.csds().iter().position(points)? + 1;
-        let mut side = walk.side.clone();
-        *side.csds.get_mut(named)? = target;
-        side.length = named + 1;
-        Some(side)
+        let last = walk.side.csds().iter().position(points)?;
+        walk.side.up_to_and(last + 1, target)
     }
 }

@@ -215,7 +215,7 @@ mod tests {
                 market.scenario.day = DAYS[turn % DAYS.len()];
                 let answer = market.scenario.settle(from, to, market.security, 1, 0);
                 assert_eq!(answer, Ok(Done::Booked), "no chain of {steps} in turn {turn}");
-                assert_eq!(market.scenario.session.steps().len(), steps);
+                assert_eq!(market.scenario.session.chain().length(), steps);
             }
         }
     }

@@ -5,7 +5,7 @@ use super::forms::{NO_SIDES, SAME_SIDES};
 use super::random::Random;
 use super::scenario::{halves, with_check_digit};
 use crate::booking::{Cents, Half, Halves, SidedHalf, Units, DELIVERING, RECEIVING};
-use crate::chain::Steps;
+use crate::chain::Chain;
 use crate::command::{Command, Reader};
 use crate::directory::*;
 use crate::register::Register;
@@ -436,9 +436,8 @@ impl Draw<'_> {
                 by_alternative.unwrap_or_else(|| (self.participant(), self.participant(), self.security(), self.day()));
             let (delivering, receiving) = halves(self.directory, from, to, security, quantity, amount);
             let ordered = Halves::by_place(&delivering, &receiving);
-            let mut steps = Steps::default();
-            let chain =
-                register.as_ref().is_ok_and(|register| register.derive_halves(ordered, day, &mut steps).is_ok());
+            let derive = |register: &Box<Register>| register.derive_halves(ordered, day, &mut Chain::default());
+            let chain = register.as_ref().is_ok_and(|register| derive(register).is_ok());
             if chain || by_alternative.is_some() || self.random.percent(30) {
                 return command(delivering, receiving, day);
             }
