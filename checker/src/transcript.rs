@@ -21,6 +21,7 @@ pub enum Done {
 
 /// A directory, its positions and its cash, started empty and changed by commands only. Its
 /// directory is therefore sound and its lists have their lengths, and neither is tested again.
+#[derive(Clone)]
 pub struct Session {
     register: Register,
     positions: Box<Positions>,

@@ -1,5 +1,5 @@
-//! Time per command on full streams of settlements, through the model and through the proved library, turn
-//! by turn: best and median of many runs, by chain length and by how much else stands in the directory. Then
+//! Time per command on full streams of settlements, by chain length and by how much else stands in the directory, and of
+//! other commands, through the model and through the proved library, turn by turn: best and median of many runs. Then
 //! the time of single calls of the desk's functions, which are handed the whole directory each time.
 
 use std::hint::black_box;
@@ -18,7 +18,7 @@ const RUNS: usize = 100;
 const CALLS: u32 = 100;
 
 fn main() {
-    println!("{:34} {:>8} {:>18} {:>18} {:>14}", "65,536 bytes of settlements", "commands", "model", "proved", "ratio");
+    println!("{:34} {:>8} {:>18} {:>18} {:>14}", "65,536 bytes of commands", "commands", "model", "proved", "ratio");
     println!("{:34} {:>8} {:>18} {:>18} {:>14}", "", "", "best, median (ns)", "best, median (ns)", "best, median");
     report("all chain lengths, full tables", &busy::mixed());
     report("the same with sided halves", &busy::sided());
@@ -28,6 +28,10 @@ fn main() {
             report(&format!("chains of {steps}, {tables}"), &busy::settlements(steps, full));
         }
     }
+    report("derivations of 16, full tables", &busy::derivations(16));
+    report("pay in, pay out, full tables", &busy::payments());
+    report("entries, right and nearly right", &busy::entries());
+    report("all commands, right and wrong", &busy::all_commands());
     println!();
     println!("{:34} {:>18}", "a call of the desk's functions", "best, median (ns)");
     for full in [false, true] {
@@ -72,6 +76,7 @@ fn call(name: &str, directory: &Directory, call: &Call) {
 }
 
 fn report(name: &str, input: &[u8]) {
+    assert_eq!(Model.transcript(input), Proved::default().transcript(input), "{name}: another text");
     let mut times = [Vec::new(), Vec::new()];
     for _ in 0..RUNS {
         times[0].push(time(&mut Model, input));
@@ -88,10 +93,11 @@ fn report(name: &str, input: &[u8]) {
     println!("{name:34} {commands:8} {:>18} {:>18} {ratios:>14}", pair(model), pair(proved));
 }
 
-/// State and output are set up and cleared within the time, on both sides.
+/// State and output are set up and freed within the time, on both sides: neither keeps a buffer from turn to turn.
 fn time(subject: &mut impl Program, input: &[u8]) -> Duration {
     let start = Instant::now();
-    black_box(subject.transcript(black_box(input)));
+    let text = subject.transcript(black_box(input));
+    drop(black_box(text));
     start.elapsed()
 }
 

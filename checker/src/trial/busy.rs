@@ -1,8 +1,11 @@
-//! Streams as long as the program takes, full of settlements, for measuring and as vectors.
+//! Streams as long as the program takes, full of settlements or of other commands, for measuring and as vectors.
 
-use super::forms::Form;
+use super::commands;
+use super::forms::{Form, FORMS};
 use super::random::Random;
 use super::scenario::{halves, Scenario};
+use crate::booking::{Cents, Half};
+use crate::command::Command;
 use crate::directory::*;
 use crate::transcript::INPUT_LIMIT;
 
@@ -26,6 +29,9 @@ pub struct Market {
     receiving: Vec<Vec<u16>>,
     neighbour: u16,
 }
+
+/// A command over two halves and a day, in a form.
+type Instruct = fn(Form, Half, Half, Day) -> Command;
 
 /// How many participants a CSD of the market has, and through how many omnibus accounts it holds for them.
 #[derive(Clone, Copy)]
@@ -76,20 +82,35 @@ impl Market {
 
     /// Settles one unit there and back, over so many steps and in the form drawn, until the stream is as long as
     /// may be.
-    pub fn settle_to_the_limit(mut self, mut draw: impl FnMut() -> (usize, Form)) -> Vec<u8> {
-        for turn in 0.. {
-            let length = self.scenario.bytes.len();
+    pub fn settle_to_the_limit(self, mut draw: impl FnMut() -> (usize, Form)) -> Vec<u8> {
+        self.instruct_to_the_limit(Form::settle, &mut draw)
+    }
+
+    /// The same with any command over two halves.
+    fn instruct_to_the_limit(mut self, instruct: Instruct, mut draw: impl FnMut() -> (usize, Form)) -> Vec<u8> {
+        let mut turn = 0;
+        send_to_the_limit(std::mem::take(&mut self.scenario), |scenario| {
             let (steps, form) = draw();
             let (one, other) = self.trade_in_turn(steps, turn / 2);
             let (from, to) = if turn % 2 == 0 { (one, other) } else { (other, one) };
-            let (delivering, receiving) = halves(self.scenario.directory(), from, to, self.security, 1, 0);
-            let _ = self.scenario.send(form.settle(delivering, receiving, DAYS[turn / 2 % DAYS.len()]));
-            if self.scenario.bytes.len() > INPUT_LIMIT {
-                self.scenario.bytes.truncate(length);
-                break;
-            }
+            let (delivering, receiving) = halves(scenario.directory(), from, to, self.security, 1, 0);
+            let day = DAYS[turn / 2 % DAYS.len()];
+            turn += 1;
+            instruct(form, delivering, receiving, day)
+        })
+    }
+}
+
+/// Sends the commands drawn until the stream is as long as may be.
+fn send_to_the_limit(mut scenario: Scenario, mut draw: impl FnMut(&Scenario) -> Command) -> Vec<u8> {
+    loop {
+        let length = scenario.bytes.len();
+        let command = draw(&scenario);
+        let _ = scenario.send(command);
+        if scenario.bytes.len() > INPUT_LIMIT {
+            scenario.bytes.truncate(length);
+            return scenario.bytes;
         }
-        self.scenario.bytes
     }
 }
 
@@ -103,6 +124,66 @@ pub fn sided() -> Vec<u8> {
     let mut random = Random::new(16);
     Market::new(true)
         .settle_to_the_limit(|| (random.between(1, 16), random.pick(&[Form::DeliveringFirst, Form::ReceivingFirst])))
+}
+
+/// A stream of derivations of one chain length over full tables.
+pub fn derivations(steps: usize) -> Vec<u8> {
+    Market::new(true).instruct_to_the_limit(Form::derive, || (steps, Form::ByPlace))
+}
+
+/// A stream of cash paid in and out on the participants of a full market, out mostly less than in.
+pub fn payments() -> Vec<u8> {
+    let mut random = Random::new(16);
+    let Market { scenario, delivering, receiving, .. } = Market::new(true);
+    let participants = [delivering.concat(), receiving.concat()].concat();
+    send_to_the_limit(scenario, |_| {
+        let account = random.pick(&participants);
+        match random.below(2) {
+            0 => Command::PayIn { account, amount: Cents(random.between(1, 2_000) as i64) },
+            _ => Command::PayOut { account, amount: Cents(random.between(1, 1_000) as i64) },
+        }
+    })
+}
+
+/// A stream of entries. Tables fill as the stream does; between the rows that fill them stand others that are refused,
+/// most of them nearly right.
+pub fn entries() -> Vec<u8> {
+    let mut random = Random::new(16);
+    send_to_the_limit(Scenario::default(), |scenario| loop {
+        let command = commands::entry(&mut random, scenario.directory());
+        if is_due(&command, scenario) || scenario.session.clone().execute(&command).is_err() {
+            return command;
+        }
+    })
+}
+
+/// Whether the table of a row is no fuller than the stream.
+fn is_due(row: &Command, scenario: &Scenario) -> bool {
+    let Directory { csds, securities, accounts, pairs, links } = scenario.directory();
+    let (count, limit) = match row {
+        Command::EnterCsd(_) => (csds.count, CSDS),
+        Command::EnterSecurity(_) => (securities.count, SECURITIES),
+        Command::EnterAccount(_) => (accounts.count, ACCOUNTS),
+        Command::EnterPair(_) => (pairs.count, PAIRS),
+        _ => (links.count, LINKS),
+    };
+    count * INPUT_LIMIT <= scenario.bytes.len() * limit
+}
+
+/// A stream of all commands over a small market that grows: one in two is drawn from all, right and wrong, the others
+/// settle and derive chains of all lengths in each form.
+pub fn all_commands() -> Vec<u8> {
+    let mut random = Random::new(16);
+    let mut market = Market::new(false);
+    send_to_the_limit(std::mem::take(&mut market.scenario), |scenario| {
+        if random.percent(50) {
+            return commands::command(&mut random, scenario.directory());
+        }
+        let (from, to) = market.trade(random.between(1, 16));
+        let (delivering, receiving) = halves(scenario.directory(), from, to, market.security, 1, 0);
+        let instruct: Instruct = random.pick(&[Form::settle, Form::settle, Form::settle, Form::derive]);
+        instruct(random.pick(&FORMS), delivering, receiving, random.pick(&DAYS))
+    })
 }
 
 /// A stream of settlements of all chain lengths in turn over full tables, of exactly the limit.
@@ -200,10 +281,10 @@ fn served_accounts(scenario: &Scenario, csd: u8) -> Vec<u16> {
 
 #[cfg(test)]
 mod tests {
-    use std::collections::BTreeSet;
+    use std::collections::{BTreeMap, BTreeSet};
 
     use super::*;
-    use crate::command::{Command, Reader};
+    use crate::command::Reader;
     use crate::transcript::{transcript, Done};
 
     #[test]
@@ -264,6 +345,50 @@ mod tests {
             }
         }
         assert!(orders.iter().all(|&times| times > 400), "{orders:?}");
+    }
+
+    /// How often each answer is given, by its words behind the number.
+    fn answers(bytes: &[u8]) -> BTreeMap<String, usize> {
+        assert!(bytes.len() + 45 > INPUT_LIMIT && bytes.len() <= INPUT_LIMIT);
+        let text = String::from_utf8(transcript(bytes)).unwrap();
+        let mut answers = BTreeMap::new();
+        for (_, answer) in
+            text.lines().filter(|line| line.starts_with(char::is_numeric)).filter_map(|line| line.split_once(' '))
+        {
+            *answers.entry(answer.to_string()).or_default() += 1;
+        }
+        answers
+    }
+
+    #[test]
+    fn derivations_have_their_length() {
+        let answers = answers(&derivations(16));
+        assert!(answers["chain 16"] > 1_200, "{answers:?}");
+    }
+
+    #[test]
+    fn payments_are_mostly_accepted() {
+        let answers = answers(&payments());
+        assert!(answers["ok"] > 5_000 && answers["no 21"] > 50 && !answers.contains_key("no 10"), "{answers:?}");
+    }
+
+    #[test]
+    fn entries_fill_the_tables_late() {
+        let answers = answers(&entries());
+        assert!(answers["ok"] > 500, "{answers:?}");
+        for (refusal, least) in [(6, 300), (7, 300), (8, 100), (9, 300), (10, 300), (11, 300), (24, 20)] {
+            assert!(answers[&format!("no {refusal}")] > least, "{refusal}: {answers:?}");
+        }
+        assert!(answers.get("no 5").is_none_or(|&times| times < 200), "{answers:?}");
+    }
+
+    #[test]
+    fn all_commands_are_answered_in_many_ways() {
+        let answers = answers(&all_commands());
+        let with =
+            |word: &str| answers.iter().filter(|(answer, _)| answer.starts_with(word)).map(|(_, times)| times).sum();
+        let times: [usize; 4] = ["ok", "no", "booked", "chain"].map(with);
+        assert!(times.iter().all(|&times| times > 100) && answers.len() > 30, "{times:?} {answers:?}");
     }
 
     #[test]
