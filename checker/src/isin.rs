@@ -2,37 +2,59 @@
 
 use crate::directory::Isin;
 
+/// A character of an ISIN or BIC as digits.
+#[derive(Clone, Copy)]
+struct Character {
+    /// A digit is one, a capital two, and any other byte none.
+    digits: u8,
+    /// What they add to the sum, by whether the last of them counts singly or doubled.
+    added: [u8; 2],
+}
+
+static CHARACTERS: [Character; 256] = {
+    let mut characters = [Character { digits: 0, added: [0; 2] }; 256];
+    let mut value = 0;
+    while value < 36 {
+        let byte = if value < 10 { b'0' + value } else { b'A' - 10 + value };
+        let (first, last) = (value / 10, value % 10);
+        characters[byte as usize] =
+            Character { digits: if value < 10 { 1 } else { 2 }, added: [last + doubled(first), doubled(last) + first] };
+        value += 1;
+    }
+    characters
+};
+
+/// "Doubled and its digits added."
+const fn doubled(digit: u8) -> u8 {
+    2 * digit / 10 + 2 * digit % 10
+}
+
+fn character(byte: u8) -> Character {
+    CHARACTERS[usize::from(byte)]
+}
+
 /// "Two capital letters, nine capitals or digits, one check digit."
 pub fn well_formed(isin: &Isin) -> bool {
-    isin[..2].iter().all(u8::is_ascii_uppercase)
+    isin[..2].iter().all(|&byte| character(byte).digits == 2)
         && isin[2..11].iter().all(|&byte| capital_or_digit(byte))
-        && isin[11].is_ascii_digit()
+        && character(isin[11]).digits == 1
 }
 
 /// "With the check digit the sum is a multiple of 10", for a well-formed ISIN. Read from the right,
 /// the check digit counts singly and then every other digit doubled, a letter being two digits.
 pub fn sum_fits(isin: &Isin) -> bool {
-    let mut sum = 0;
-    let mut doubled = false;
-    let mut add = |digit: u32| {
-        sum += if doubled { digit * 2 / 10 + digit * 2 % 10 } else { digit };
-        doubled = !doubled;
-    };
+    let (mut sum, mut place) = (0, 0);
     for &byte in isin.iter().rev() {
-        if byte.is_ascii_digit() {
-            add(u32::from(byte - b'0'));
-        } else {
-            let letter = u32::from(byte - b'A') + 10;
-            add(letter % 10);
-            add(letter / 10);
-        }
+        let Character { digits, added } = character(byte);
+        sum += u32::from(added[place % 2]);
+        place += usize::from(digits);
     }
     sum % 10 == 0
 }
 
 /// Capitals A to Z and digits, as a BIC and an ISIN are written.
 pub fn capital_or_digit(byte: u8) -> bool {
-    byte.is_ascii_uppercase() || byte.is_ascii_digit()
+    character(byte).digits > 0
 }
 
 #[cfg(test)]
