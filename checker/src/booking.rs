@@ -1,6 +1,6 @@
 //! Positions and cash: what a call may change, judged on the numbers before it, and the change.
 
-use crate::chain::{Chain, Leg};
+use crate::chain::{Accounts, Chain, Leg};
 use crate::directory::{Day, ACCOUNTS, SECURITIES};
 use crate::links::Standing;
 use crate::numbers::{AccountNumber, SecurityNumber};
@@ -248,7 +248,7 @@ fn book(positions: &mut Positions, cash: &mut Cash, instruction: &Instruction, c
     });
     booked.map_err(|refusal| {
         let is_short = |leg: &Leg| positions[position(leg.near, security)] < quantity;
-        if chain.delivering().iter().any(is_short) {
+        if chain.delivering.legs().iter().any(is_short) {
             Refusal::SecuritiesShort
         } else {
             refusal
@@ -275,19 +275,18 @@ fn move_along(
     chain: &Chain,
 ) -> Result<(), Refusal> {
     let mut column = Column { positions, security };
-    let (delivering, receiving) = (chain.delivering(), chain.receiving());
-    let up = column.make_all::<0>(delivering, |leg| (leg.near, leg.far), quantity);
-    if up < delivering.len() {
-        column.take_back(&delivering[..up], |leg| (leg.near, leg.far), quantity);
-        return Err(Refusal::BeyondBound);
+    let (delivering, receiving) = (chain.delivering.legs(), chain.receiving.legs());
+    let up = column.make::<0>(delivering, Leg::up, quantity);
+    let mut down = 0;
+    if up == delivering.len() {
+        down = column.make::<{ -BOUND }>(receiving, Leg::down, quantity);
+        if down == receiving.len() {
+            return Ok(());
+        }
     }
-    let down = column.make_all::<{ -BOUND }>(receiving, |leg| (leg.far, leg.near), quantity);
-    if down < receiving.len() {
-        column.take_back(&receiving[..down], |leg| (leg.far, leg.near), quantity);
-        column.take_back(delivering, |leg| (leg.near, leg.far), quantity);
-        return Err(Refusal::BeyondBound);
-    }
-    Ok(())
+    column.take_back(&delivering[..up], Leg::up, quantity);
+    column.take_back(&receiving[..down], Leg::down, quantity);
+    Err(Refusal::BeyondBound)
 }
 
 /// The positions of a security.
@@ -301,15 +300,10 @@ impl Column<'_> {
         &mut self.positions[position(account, self.security)].0
     }
 
-    /// Makes the steps up to the first that cannot be made, and gives their number. A debited position must not fall
-    /// below a lowest number, and all must end within the bound.
+    /// Makes steps up to the first that cannot be made, and gives their number. Positions must end within the bound,
+    /// debited ones not below a lowest number.
     #[inline(always)]
-    fn make_all<const LOWEST: i64>(
-        &mut self,
-        legs: &[Leg],
-        accounts: impl Fn(&Leg) -> (AccountNumber, AccountNumber),
-        quantity: Units,
-    ) -> usize {
+    fn make<const LOWEST: i64>(&mut self, legs: &[Leg], accounts: impl Fn(&Leg) -> Accounts, quantity: Units) -> usize {
         let mut rest = legs.iter();
         let all = rest.all(|leg| {
             let (debit, credit) = accounts(leg);
@@ -325,7 +319,7 @@ impl Column<'_> {
         legs.len() - rest.len() - usize::from(!all)
     }
 
-    fn take_back(&mut self, legs: &[Leg], accounts: impl Fn(&Leg) -> (AccountNumber, AccountNumber), quantity: Units) {
+    fn take_back(&mut self, legs: &[Leg], accounts: impl Fn(&Leg) -> Accounts, quantity: Units) {
         for (debit, credit) in legs.iter().map(accounts) {
             *self.at(debit) += quantity.0;
             *self.at(credit) -= quantity.0;

@@ -17,66 +17,75 @@ pub struct Step {
     pub credit: u16,
 }
 
-/// The same as a side is climbed: the account towards its participant, and the one towards the other side.
+/// The accounts of a step as a side is climbed: the one towards its participant, and the one towards the other side.
 #[derive(Clone, Copy, Debug, Default)]
 pub struct Leg {
-    pub csd: CsdNumber,
     pub near: AccountNumber,
     pub far: AccountNumber,
 }
 
-/// The legs of a side, from its participant. The CSD where both sides meet is the delivering side's.
-#[derive(Clone, Debug, Default)]
-struct Legs {
-    list: [Leg; SIDE],
-    length: usize,
+/// An account debited, and an account credited.
+pub type Accounts = (AccountNumber, AccountNumber);
+
+impl Leg {
+    /// On the delivering side.
+    pub fn up(&self) -> Accounts {
+        (self.near, self.far)
+    }
+
+    /// On the receiving side.
+    pub fn down(&self) -> Accounts {
+        (self.far, self.near)
+    }
 }
 
-impl Legs {
-    fn get(&self) -> &[Leg] {
-        &self.list[..self.length]
+/// A side with its legs, both from its participant.
+#[derive(Clone, Debug, Default)]
+pub struct Climb {
+    side: Side,
+    legs: [Leg; SIDE],
+}
+
+impl Climb {
+    pub fn legs(&self) -> &[Leg] {
+        &self.legs[..self.side.length()]
+    }
+
+    /// Each CSD with its leg.
+    pub fn iter(&self) -> impl DoubleEndedIterator<Item = (CsdNumber, &Leg)> {
+        self.side.csds().iter().copied().zip(self.legs())
     }
 
     /// Gives the last leg its far account.
     fn end(&mut self, far: AccountNumber) {
-        self.list[self.length - 1].far = far;
+        self.legs[self.side.length() - 1].far = far;
     }
 }
 
-/// The steps of a chain.
+/// The steps of a chain. The CSD where both sides meet is the delivering side's.
 #[derive(Clone, Debug, Default)]
 pub struct Chain {
-    delivering: Legs,
-    receiving: Legs,
+    /// In the order of steps. They debit near accounts, a participant and omnibus accounts.
+    pub delivering: Climb,
+    /// The last step first. They debit far accounts: mirror, inter-CSD and issuance accounts.
+    pub receiving: Climb,
 }
 
 impl Chain {
     /// How many steps it has.
     pub fn length(&self) -> usize {
-        self.delivering.length + self.receiving.length
-    }
-
-    /// The legs that debit the near account, a participant or omnibus account, and credit the far one; in the order of
-    /// steps.
-    pub fn delivering(&self) -> &[Leg] {
-        self.delivering.get()
-    }
-
-    /// The legs that debit the far account, a mirror, inter-CSD or issuance account, and credit the near one; the last
-    /// step first.
-    pub fn receiving(&self) -> &[Leg] {
-        self.receiving.get()
+        self.delivering.side.length() + self.receiving.side.length()
     }
 
     /// The steps, from the delivering to the receiving side.
     pub fn steps(&self) -> impl Iterator<Item = Step> + '_ {
-        let step = |csd: CsdNumber, debit: AccountNumber, credit: AccountNumber| Step {
+        let step = |csd: CsdNumber, (debit, credit): Accounts| Step {
             csd: csd.0,
             debit: debit.0.into(),
             credit: credit.0.into(),
         };
-        let delivering = self.delivering().iter().map(move |leg| step(leg.csd, leg.near, leg.far));
-        delivering.chain(self.receiving().iter().rev().map(move |leg| step(leg.csd, leg.far, leg.near)))
+        let up = self.delivering.iter().map(move |(csd, leg)| step(csd, leg.up()));
+        up.chain(self.receiving.iter().rev().map(move |(csd, leg)| step(csd, leg.down())))
     }
 }
 
@@ -109,17 +118,17 @@ impl Register {
     ) -> Result<(), Refusal> {
         let (d, r) = (self.account_csd(delivering), self.account_csd(receiving));
         if d == r {
-            chain.delivering.list[0] = Leg { csd: d, near: delivering, far: receiving };
-            (chain.delivering.length, chain.receiving.length) = (1, 0);
+            (chain.delivering.side, chain.receiving.side) = (Side::of(d), Side::default());
+            chain.delivering.legs[0] = Leg { near: delivering, far: receiving };
             return Ok(());
         }
         let route = self.route(security, d, r, day)?;
-        let debit = self.climb(&route.delivering, delivering, &mut chain.delivering)?;
-        let credit = self.climb(&route.receiving, receiving, &mut chain.receiving)?;
+        let debit = self.climb(route.delivering, delivering, &mut chain.delivering)?;
+        let credit = self.climb(route.receiving, receiving, &mut chain.receiving)?;
         match route.meeting {
             Meeting::Shared => {
                 chain.delivering.end(credit);
-                chain.receiving.length -= 1;
+                chain.receiving.side = route.receiving.up_to(route.receiving.length() - 1);
             }
             Meeting::Issuers(delivering, receiving) => {
                 chain.delivering.end(delivering);
@@ -153,16 +162,15 @@ impl Register {
     /// The legs of a side from an account upwards, or 18: "a step looks up the row of the account at its other side".
     /// The last one is left without its far account; the near one is given.
     #[inline(always)]
-    fn climb(&self, side: &Side, account: AccountNumber, legs: &mut Legs) -> Result<AccountNumber, Refusal> {
-        let csds = side.csds();
+    fn climb(&self, side: Side, account: AccountNumber, climb: &mut Climb) -> Result<AccountNumber, Refusal> {
+        climb.side = side;
         let mut near = account;
-        for (hop, leg) in csds.windows(2).zip(&mut legs.list) {
-            let duo = self.duo_or_refusal(hop[1], near)?;
-            *leg = Leg { csd: hop[0], near, far: duo.near };
+        for (&technical, leg) in side.csds().iter().skip(1).zip(&mut climb.legs) {
+            let duo = self.duo_or_refusal(technical, near)?;
+            *leg = Leg { near, far: duo.near };
             near = duo.far;
         }
-        legs.length = csds.len();
-        legs.list[legs.length - 1] = Leg { csd: csds[legs.length - 1], near, far: near };
+        climb.legs[side.length() - 1].near = near;
         Ok(near)
     }
 

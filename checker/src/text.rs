@@ -1,8 +1,8 @@
 //! The lines that the program prints, written in place.
 
-use crate::chain::Chain;
+use crate::chain::{Accounts, Chain};
 use crate::directory::{ACCOUNTS, CSDS};
-use crate::numbers::{AccountNumber, CsdNumber};
+use crate::numbers::CsdNumber;
 
 /// Room for the lines of one answer: those of 16 steps are the longest.
 const LINES: usize = 384;
@@ -29,10 +29,12 @@ impl Text {
         self.lines(|lines| lines.word(b"too long\n"));
     }
 
+    #[inline(always)]
     pub fn accepted(&mut self) {
         self.answer(|lines| lines.word(b" ok\n"));
     }
 
+    #[inline(always)]
     pub fn refused(&mut self, refusal: u8) {
         self.answer(|lines| {
             lines.word(b" no ");
@@ -40,16 +42,18 @@ impl Text {
         });
     }
 
-    /// The line of a chain that was booked or derived, and one for each step.
+    /// The line of a chain that was booked or derived, and one for each step. It is not inlined, so that its loops have
+    /// all registers.
+    #[inline(never)]
     pub fn chain<const WIDTH: usize>(&mut self, word: &[u8; WIDTH], chain: &Chain) {
         self.answer(|lines| {
             lines.word(word);
             lines.last_field(chain.length() as u8);
-            for leg in chain.delivering() {
-                lines.step(leg.csd, leg.near, leg.far);
+            for (csd, leg) in chain.delivering.iter() {
+                lines.step(csd, leg.up());
             }
-            for leg in chain.receiving().iter().rev() {
-                lines.step(leg.csd, leg.far, leg.near);
+            for (csd, leg) in chain.receiving.iter().rev() {
+                lines.step(csd, leg.down());
             }
         });
     }
@@ -73,7 +77,7 @@ impl Text {
     #[inline(always)]
     fn answer(&mut self, write: impl FnOnce(&mut Lines)) {
         self.number.advance();
-        let Counter { digits, length } = self.number;
+        let (digits, length) = self.number.text();
         self.lines(|lines| {
             lines.put(&digits, length);
             write(lines);
@@ -124,12 +128,13 @@ impl Lines<'_> {
 
     /// The line of a step, put together from ready pieces of up to 5, 4 and 4 bytes.
     #[inline(always)]
-    fn step(&mut self, csd: CsdNumber, debit: AccountNumber, credit: AccountNumber) {
+    fn step(&mut self, csd: CsdNumber, (debit, credit): Accounts) {
+        let Start { text, length } = READY.first[csd.index()];
         let (debit, credit) = (READY.middle[debit.index()], READY.last[credit.index()]);
         let accounts = u64::from(debit.text) | u64::from(credit.text) << debit.bits;
-        let place = 4 + usize::from(csd.index() > 9);
+        let place = length % 8;
         let line: &mut [u8; 16] = self.behind();
-        line[..8].copy_from_slice(&READY.first[csd.index()].to_le_bytes());
+        line[..8].copy_from_slice(&text.to_le_bytes());
         line[place..place + 8].copy_from_slice(&accounts.to_le_bytes());
         self.length += place + (debit.bits + credit.bits) as usize / 8;
     }
@@ -151,25 +156,39 @@ impl Lines<'_> {
     }
 }
 
-/// A number as text, counted up digit by digit.
-#[derive(Clone, Copy, Default)]
+/// A number of up to eight digits, counted up as text. Each digit has a byte, the last one the lowest, and is kept 246
+/// higher: so 9 and one more carries over to the digit before it.
 struct Counter {
-    digits: [u8; 8],
-    length: usize,
+    raised: u64,
+    /// How many digits stand before the first one that is not 0.
+    unused: usize,
+}
+
+const RAISED: u64 = u64::from_ne_bytes([246; 8]);
+const RAISED_TEXT: u64 = u64::from_ne_bytes([246 - b'0'; 8]);
+
+impl Default for Counter {
+    fn default() -> Self {
+        Counter { raised: RAISED, unused: 7 }
+    }
 }
 
 impl Counter {
     #[inline(always)]
     fn advance(&mut self) {
-        for digit in self.digits[..self.length].iter_mut().rev() {
-            if *digit < b'9' {
-                *digit += 1;
-                return;
-            }
-            *digit = b'0';
+        self.raised += 1;
+        if self.raised as u8 == 0 {
+            let carried = self.raised.trailing_zeros() / 8 * 8;
+            self.raised += RAISED & ((1 << carried) - 1);
+            self.unused = (self.raised - RAISED).leading_zeros() as usize / 8;
         }
-        self.digits = *b"10000000";
-        self.length += 1;
+    }
+
+    /// Eight bytes, and how many of them count.
+    #[inline(always)]
+    fn text(&self) -> ([u8; 8], usize) {
+        let unused = self.unused % 8;
+        (((self.raised - RAISED_TEXT) << (8 * unused)).to_be_bytes(), 8 - unused)
     }
 }
 
@@ -180,20 +199,28 @@ struct Field {
     bits: u32,
 }
 
+/// The same with a dash before it, and its length in bytes.
+#[derive(Clone, Copy)]
+struct Start {
+    text: u64,
+    length: usize,
+}
+
 /// The fields of a step's line, ready for each number: a dash and the CSD, a space behind it; the account debited, a
 /// space behind it; the account credited and the end of the line.
 struct Ready {
-    first: [u64; CSDS],
+    first: [Start; CSDS],
     middle: [Field; ACCOUNTS],
     last: [Field; ACCOUNTS],
 }
 
 static READY: Ready = {
     let middle = fields(b' ');
-    let mut first = [0; CSDS];
+    let mut first = [Start { text: 0, length: 0 }; CSDS];
     let mut csd = 0;
     while csd < CSDS {
-        first[csd] = u16::from_le_bytes(*b"- ") as u64 | (middle[csd].text as u64) << 16;
+        let text = u16::from_le_bytes(*b"- ") as u64 | (middle[csd].text as u64) << 16;
+        first[csd] = Start { text, length: 2 + middle[csd].bits as usize / 8 };
         csd += 1;
     }
     Ready { first, middle, last: fields(b'\n') }
@@ -213,4 +240,30 @@ const fn fields(behind: u8) -> [Field; ACCOUNTS] {
         number += 1;
     }
     fields
+}
+
+#[cfg(test)]
+mod tests {
+    use super::*;
+
+    #[test]
+    fn numbers_are_counted_up() {
+        let mut counter = Counter::default();
+        for number in 1..=100_000 {
+            counter.advance();
+            let (digits, length) = counter.text();
+            assert_eq!(digits[..length], *number.to_string().as_bytes());
+        }
+    }
+
+    #[test]
+    fn fields_are_ready() {
+        for number in 0..ACCOUNTS {
+            for (field, text) in
+                [(READY.middle[number], format!("{number} ")), (READY.last[number], format!("{number}\n"))]
+            {
+                assert_eq!(field.text.to_le_bytes()[..field.bits as usize / 8], *text.as_bytes());
+            }
+        }
+    }
 }

@@ -53,7 +53,7 @@ impl Session {
         &self.cash
     }
 
-    /// The chain that was booked or derived last.
+    /// The chain of the command just answered, where it was booked or derived.
     pub fn chain(&self) -> &Chain {
         &self.chain
     }

@@ -9,13 +9,24 @@ use crate::register::Register;
 pub const SIDE: usize = 8;
 
 /// CSDs in T2S along the links, from the start of a walk.
-#[derive(Clone, Copy, Debug)]
+#[derive(Clone, Copy, Debug, Default)]
 pub struct Side {
     csds: [CsdNumber; SIDE],
     length: usize,
 }
 
 impl Side {
+    /// Of one CSD.
+    pub fn of(csd: CsdNumber) -> Side {
+        let mut csds = [CsdNumber::default(); SIDE];
+        csds[0] = csd;
+        Side { csds, length: 1 }
+    }
+
+    pub fn length(&self) -> usize {
+        self.length
+    }
+
     pub fn csds(&self) -> &[CsdNumber] {
         &self.csds[..self.length]
     }
