@@ -253,15 +253,11 @@ impl Command {
             Command::EnterAccount(Account { csd, kind }) => out.extend([csd, kind]),
             Command::EnterPair(Pair { investor, technical, investor_account, technical_account, served }) => {
                 out.extend([investor, technical]);
-                for account in [investor_account, technical_account, served] {
-                    out.extend(account.to_be_bytes());
-                }
+                out.extend([investor_account, technical_account, served].map(u16::to_be_bytes).as_flattened());
             }
             Command::EnterLink(Link { security, kind, csd, technical, flag, account, days }) => {
                 out.extend([security, kind, csd, technical, flag]);
-                for number in [account, days.first, days.last] {
-                    out.extend(number.to_be_bytes());
-                }
+                out.extend([account, days.first, days.last].map(u16::to_be_bytes).as_flattened());
             }
             Command::BringIn { account, security, quantity, day }
             | Command::TakeOut { account, security, quantity, day } => {

@@ -4,7 +4,8 @@ use crate::directory::*;
 use crate::numbers::{AccountNumber, CsdNumber, CsdSet, SecurityNumber};
 
 /// What a link makes of its CSD for a security: an issuer with its issuance account, or an investor with a technical
-/// issuer, in T2S or external. Without a link it is neither.
+/// issuer, in T2S or external. Without a link it is neither. An external issuer has no account, and its number means
+/// nothing.
 #[derive(Clone, Copy, PartialEq, Eq, Debug, Default)]
 pub enum Standing {
     #[default]

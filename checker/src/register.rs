@@ -9,7 +9,7 @@ use crate::refusal::{require, Refusal};
 
 const NO_ROW: u16 = 0xFFFF;
 
-/// The accounts of a pair row: mirror and omnibus, or inter-CSD account and none.
+/// The accounts of a pair row: mirror and omnibus, or inter-CSD account and a number that means nothing.
 #[derive(Clone, Copy)]
 pub struct Duo {
     pub near: AccountNumber,
