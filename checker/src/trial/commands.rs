@@ -436,7 +436,7 @@ impl Draw<'_> {
                 by_alternative.unwrap_or_else(|| (self.participant(), self.participant(), self.security(), self.day()));
             let (delivering, receiving) = halves(self.directory, from, to, security, quantity, amount);
             let ordered = Halves::by_place(&delivering, &receiving);
-            let derive = |register: &Box<Register>| register.derive_halves(ordered, day, &mut Chain::default());
+            let derive = |register: &Register| register.derive_halves(ordered, day, &mut Chain::default());
             let chain = register.as_ref().is_ok_and(|register| derive(register).is_ok());
             if chain || by_alternative.is_some() || self.random.percent(30) {
                 return command(delivering, receiving, day);
