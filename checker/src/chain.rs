@@ -99,13 +99,6 @@ enum Meeting {
     Outside(CsdNumber, CsdNumber),
 }
 
-/// The chain that steps 2 to 4 choose, pairs unread. Each side names its CSDs from its participant.
-struct Route {
-    delivering: Side,
-    receiving: Side,
-    meeting: Meeting,
-}
-
 impl Register {
     /// Leaves the chain between two participant accounts on a day, or gives refusal 14 to 18.
     pub fn derive(
@@ -118,17 +111,18 @@ impl Register {
     ) -> Result<(), Refusal> {
         let (d, r) = (self.account_csd(delivering), self.account_csd(receiving));
         if d == r {
-            (chain.delivering.side, chain.receiving.side) = (Side::of(d), Side::default());
+            chain.delivering.side.cut_before(0, d);
             chain.delivering.legs[0] = Leg { near: delivering, far: receiving };
+            chain.receiving.side.cut(0);
             return Ok(());
         }
-        let route = self.route(security, d, r, day)?;
-        let debit = self.climb(route.delivering, delivering, &mut chain.delivering)?;
-        let credit = self.climb(route.receiving, receiving, &mut chain.receiving)?;
-        match route.meeting {
+        let meeting = self.route(security, d, r, day, chain)?;
+        let debit = self.climb(delivering, &mut chain.delivering)?;
+        let credit = self.climb(receiving, &mut chain.receiving)?;
+        match meeting {
             Meeting::Shared => {
                 chain.delivering.end(credit);
-                chain.receiving.side = route.receiving.up_to(route.receiving.length() - 1);
+                chain.receiving.side.cut(chain.receiving.side.length() - 1);
             }
             Meeting::Issuers(delivering, receiving) => {
                 chain.delivering.end(delivering);
@@ -142,35 +136,48 @@ impl Register {
         Ok(())
     }
 
-    /// The CSDs between two others in T2S, or 14 to 17.
+    /// Leaves the sides that steps 2 to 4 choose between two CSDs, pairs unread, or gives 14 to 17. Where both sides end
+    /// at the same CSD, each names it. Default walks that meet go on together, so that all that they share stands at
+    /// their ends.
     #[inline(always)]
-    fn route(&self, security: SecurityNumber, d: CsdNumber, r: CsdNumber, day: Day) -> Result<Route, Refusal> {
-        let (from_d, from_r) = (self.default_walk(security, d, day), self.default_walk(security, r, day));
-        let route = |delivering, receiving, meeting| Ok(Route { delivering, receiving, meeting });
+    fn route(
+        &self,
+        security: SecurityNumber,
+        d: CsdNumber,
+        r: CsdNumber,
+        day: Day,
+        chain: &mut Chain,
+    ) -> Result<Meeting, Refusal> {
+        let (delivering, receiving) = (&mut chain.delivering.side, &mut chain.receiving.side);
+        let from_d = self.default_walk(security, d, day, delivering);
+        let from_r = self.default_walk(security, r, day, receiving);
         if from_d.named.meets(from_r.named) && from_d.arrives() && from_r.arrives() {
-            return route(from_d.up_to_shared(&from_r), from_r.up_to_shared(&from_d), Meeting::Shared);
+            let beyond = from_d.named.shared_with(from_r.named) - 1;
+            delivering.cut(delivering.length() - beyond);
+            receiving.cut(receiving.length() - beyond);
+        } else if self.directed_walk(security, from_d, r, day, delivering) {
+            receiving.cut(1);
+        } else if self.directed_walk(security, from_r, d, day, receiving) {
+            delivering.cut(1);
+        } else {
+            return judge(from_d.end, from_r.end);
         }
-        if let Some(side) = self.directed_walk(security, &from_d, r, day) {
-            return route(side, from_r.side.up_to(1), Meeting::Shared);
-        }
-        if let Some(side) = self.directed_walk(security, &from_r, d, day) {
-            return route(from_d.side.up_to(1), side, Meeting::Shared);
-        }
-        route(from_d.side, from_r.side, judge(from_d.end, from_r.end)?)
+        Ok(Meeting::Shared)
     }
 
     /// The legs of a side from an account upwards, or 18: "a step looks up the row of the account at its other side".
     /// The last one is left without its far account; the near one is given.
     #[inline(always)]
-    fn climb(&self, side: Side, account: AccountNumber, climb: &mut Climb) -> Result<AccountNumber, Refusal> {
-        climb.side = side;
+    fn climb(&self, account: AccountNumber, climb: &mut Climb) -> Result<AccountNumber, Refusal> {
+        let Climb { side, legs } = climb;
+        let technicals = &side.csds()[1..];
         let mut near = account;
-        for (&technical, leg) in side.csds().iter().skip(1).zip(&mut climb.legs) {
+        for (&technical, leg) in technicals.iter().zip(legs.iter_mut()) {
             let duo = self.duo_or_refusal(technical, near)?;
             *leg = Leg { near, far: duo.near };
             near = duo.far;
         }
-        climb.legs[side.length() - 1].near = near;
+        legs[technicals.len()].near = near;
         Ok(near)
     }
 

@@ -9,20 +9,13 @@ use crate::register::Register;
 pub const SIDE: usize = 8;
 
 /// CSDs in T2S along the links, from the start of a walk.
-#[derive(Clone, Copy, Debug, Default)]
+#[derive(Clone, Debug, Default)]
 pub struct Side {
     csds: [CsdNumber; SIDE],
     length: usize,
 }
 
 impl Side {
-    /// Of one CSD.
-    pub fn of(csd: CsdNumber) -> Side {
-        let mut csds = [CsdNumber::default(); SIDE];
-        csds[0] = csd;
-        Side { csds, length: 1 }
-    }
-
     pub fn length(&self) -> usize {
         self.length
     }
@@ -31,15 +24,19 @@ impl Side {
         &self.csds[..self.length]
     }
 
-    /// So many of its CSDs.
-    pub fn up_to(self, length: usize) -> Side {
-        Side { length: length.min(self.length), ..self }
+    /// Leaves so many of its CSDs.
+    pub fn cut(&mut self, length: usize) {
+        self.length = length;
     }
 
-    /// So many of its CSDs and one more, where a side has room for it.
-    fn up_to_and(mut self, length: usize, csd: CsdNumber) -> Option<Side> {
-        *self.csds.get_mut(length)? = csd;
-        Some(Side { length: length + 1, ..self })
+    /// Leaves so many of its CSDs and one more, if a side has room for it.
+    pub fn cut_before(&mut self, length: usize, csd: CsdNumber) -> bool {
+        let Some(place) = self.csds.get_mut(length) else {
+            return false;
+        };
+        *place = csd;
+        self.length = length + 1;
+        true
     }
 }
 
@@ -52,37 +49,28 @@ pub enum WalkEnd {
     TooLong,
 }
 
-/// A default walk. An external CSD stands in its end only.
+/// A default walk: the CSDs of its side as a set, and its end, where alone an external CSD stands.
 #[derive(Clone, Copy, Debug)]
 pub struct Walk {
-    pub side: Side,
     pub named: CsdSet,
     pub end: WalkEnd,
 }
 
 impl Walk {
     /// Whether the walk ends inside or outside.
-    pub fn arrives(&self) -> bool {
+    pub fn arrives(self) -> bool {
         matches!(self.end, WalkEnd::Inside(_) | WalkEnd::Outside(_))
-    }
-
-    /// Its CSDs up to the first that it shares with a walk that it meets. Walks that meet go on together, so that all
-    /// that they share stands at their ends.
-    pub fn up_to_shared(&self, other: &Walk) -> Side {
-        let shared = self.named.shared_with(other.named);
-        self.side.up_to(self.side.length + 1 - shared)
     }
 }
 
 impl Register {
-    /// The default walk from a CSD in T2S.
+    /// The default walk from a CSD in T2S. It leaves its side.
     #[inline(always)]
-    pub fn default_walk(&self, security: SecurityNumber, start: CsdNumber, day: Day) -> Walk {
-        let mut csds = [CsdNumber::default(); SIDE];
+    pub fn default_walk(&self, security: SecurityNumber, start: CsdNumber, day: Day, side: &mut Side) -> Walk {
         let mut named = CsdSet::default();
         let mut csd = start;
         for place in 0..SIDE {
-            csds[place] = csd;
+            side.csds[place] = csd;
             named.insert(csd);
             let end = match self.links(security, csd).standing(day) {
                 Standing::Investor(technical) => {
@@ -94,21 +82,30 @@ impl Register {
                 Standing::Issuer(issuance) => WalkEnd::Inside(issuance),
                 Standing::NoLink => WalkEnd::NoLink,
             };
-            return Walk { side: Side { csds, length: place + 1 }, named, end };
+            side.length = place + 1;
+            return Walk { named, end };
         }
-        Walk { side: Side { csds, length: SIDE }, named, end: WalkEnd::TooLong }
+        side.length = SIDE;
+        Walk { named, end: WalkEnd::TooLong }
     }
 
-    /// The directed walk to another CSD, target included, where it reaches. It is the default walk from the same start
-    /// as far as the first CSD with a link to the target.
+    /// Tells whether the directed walk to another CSD reaches, and makes its side, target included, of that of the
+    /// default walk from the same start: it is the same as far as the first CSD with a link to the target.
     #[inline(always)]
-    pub fn directed_walk(&self, security: SecurityNumber, walk: &Walk, target: CsdNumber, day: Day) -> Option<Side> {
+    pub fn directed_walk(
+        &self,
+        security: SecurityNumber,
+        walk: Walk,
+        target: CsdNumber,
+        day: Day,
+        side: &mut Side,
+    ) -> bool {
         let pointing = self.pointing_to(security, target);
         if !walk.named.meets(pointing) {
-            return None;
+            return false;
         }
         let points = |&csd: &CsdNumber| pointing.contains(csd) && self.links(security, csd).point_to(target, day);
-        let last = walk.side.csds().iter().position(points)?;
-        walk.side.up_to_and(last + 1, target)
+        let last = side.csds().iter().position(points);
+        last.is_some_and(|last| side.cut_before(last + 1, target))
     }
 }
