@@ -39,22 +39,22 @@ pub(crate) fn put_spaced(out: &mut [u8], at: usize, n: u64, words: &[u8; WORDS])
     ensures { λ r. ⌜ Appended (now (out .entry)) at (now (out .exit)) r (decimal n ++ (32 ∷ [])) × ((at < r) × (r ≤ at + 4)) ⌝ }
 {
     let word = 4 * (n as usize);
-    if n < 10 {
+    if 99 < n {
+        let hundreds = words[word];
+        let tens = words[word + 1];
         let ones = words[word + 2];
         let space = words[word + 3];
-        return put_two(out, at, ones, space);
+        return put_four(out, at, hundreds, tens, ones, space);
     }
-    if n < 100 {
+    if 9 < n {
         let tens = words[word + 1];
         let ones = words[word + 2];
         let space = words[word + 3];
         return put_three(out, at, tens, ones, space);
     }
-    let hundreds = words[word];
-    let tens = words[word + 1];
     let ones = words[word + 2];
     let space = words[word + 3];
-    put_four(out, at, hundreds, tens, ones, space)
+    put_two(out, at, ones, space)
 }
 
 // A number of at most six digits and a space: the word of the last three, over the space of the others.
