@@ -1,2 +1,3 @@
+pub mod Agreeing
 pub mod Days
 pub mod Ranges

@@ -12,12 +12,13 @@ use rules::PARTICIPANT;
 use rules::RECEIVING;
 use rules::SidedHalf;
 ghost use mathlib.Core.Path.{_≡_};
+ghost use mathlib.Core.Bool.{true, false};
 ghost use lib.Dec.{eqb};
 ghost use Rattle.rules.specs.Tests.{firstOf};
 ghost use Rattle.rules.specs.Calls.{sided, deliveringSide, delivering, receiving, sideUnknown, sameSide};
 ghost use Rattle.rules.specs.Calls.{halfUnknown, halfOutOfRange, halvesDiffer, bothConditions};
 ghost use Rattle.index.specs.Asked.{asked};
-ghost use Rattle.halves.specs.Halves.{inOrder};
+ghost use Rattle.halves.specs.Halves.{inOrder, Faces, TermsAgree};
 
 // Two halves in order, and what is asked of their sides: whether one is unknown, and whether both are the same.
 pub struct InOrder {
@@ -116,6 +117,54 @@ fn halves_differ(index: &[u16; INDEX], delivering: Half, receiving: Half) -> boo
             | ((delivering.amount != receiving.amount) | (!to | !from)))
 }
 
+// Whether the half has a participant account, and for its counterpart a CSD that has the other account in its books.
+fn faces(index: &[u16; INDEX], half: Half, other: u16) -> bool
+    ensures { λ r. ⌜ (r ≡ true → Faces (asked (now (index .entry))) half other) ⌝ }
+{
+    if !is_kind(index, half.account, PARTICIPANT) {
+        return false;
+    }
+    if !in_books(index, other, half.counterpart) {
+        return false;
+    }
+    is_csd(index, half.counterpart)
+}
+
+// Whether both have one security, which is entered, one quantity and one amount, which are in range.
+fn terms_agree(index: &[u16; INDEX], delivering: Half, receiving: Half) -> bool
+    ensures { λ r. ⌜ (r ≡ true → TermsAgree (asked (now (index .entry))) delivering receiving) ⌝ }
+{
+    if delivering.security != receiving.security {
+        return false;
+    }
+    if delivering.quantity != receiving.quantity {
+        return false;
+    }
+    if delivering.amount != receiving.amount {
+        return false;
+    }
+    if half_out_of_range(delivering) {
+        return false;
+    }
+    is_security(index, delivering.security)
+}
+
+// Whether the halves agree, so that nothing but their sides can refuse them: what both have is looked at once.
+fn halves_agree(index: &[u16; INDEX], delivering: Half, receiving: Half) -> bool
+    ensures { λ r. ⌜ (r ≡ true → firstOf (bothConditions (asked (now (index .entry))) delivering receiving false false) ≡ 0) ⌝ }
+{
+    if !faces(index, delivering, receiving.account) {
+        return false;
+    }
+    if !faces(index, receiving, delivering.account) {
+        return false;
+    }
+    if !terms_agree(index, delivering, receiving) {
+        return false;
+    }
+    delivering.account != receiving.account
+}
+
 // 6, 7, 10, 23, 12 and 13, each over both halves; 0 where none applies. What is asked of their sides comes last.
 pub fn halves_refusal(
     index: &[u16; INDEX],
@@ -126,6 +175,9 @@ pub fn halves_refusal(
 ) -> u8
     ensures { λ r. ⌜ r ≡ firstOf (bothConditions (asked (now (index .entry))) delivering receiving unknown same) ⌝ }
 {
+    if halves_agree(index, delivering, receiving) & !(unknown | same) {
+        return 0;
+    }
     if half_unknown(index, delivering) | half_unknown(index, receiving) {
         return 6;
     }
