@@ -20,6 +20,10 @@ pub record Kept : Type 0 where
   pub numbers : List ℕ
   pub names : List ℕ
 
+-- by the numbers l and the bytes b
+abbrev pub keptIn : List ℕ → List ℕ → Kept
+keptIn l b = record { numbers = l; names = b }
+
 -- it is kept of this sound directory
 pub record Keeps (k : Kept) (d : Directory) : Type 0 where
   pub indexed : Indexed (k .numbers) d

@@ -102,7 +102,7 @@ module _ (st : Store) (B : Bounded st) where
   changed-bounded (derive hs day lent) free = B
 
 -- ---- every call, and every list
-desk-bounded : (c : Call) (st : Store) → Bounded st → Bounded (desk c st .store)
+pub desk-bounded : (c : Call) (st : Store) → Bounded st → Bounded (desk c st .store)
 unfolding desk
 desk-bounded c st B = go (firstOf (deskConditions c st)) refl
   where
@@ -114,7 +114,7 @@ from-bounded : (cs : List Call) (r : Run) → Bounded (r .store) → Bounded (ru
 from-bounded [] r B = B
 from-bounded (c ∷ cs) r B = from-bounded cs (next c r) (desk-bounded c (r .store) B)
 
-empty-bounded : Bounded emptyStore
+pub empty-bounded : Bounded emptyStore
 unfolding emptyStore beyond
 empty-bounded = record { positions = λ s a hs. rw (no-units _ s a); cash = λ a. rw (no-cents _ a) }
 

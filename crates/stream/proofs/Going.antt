@@ -29,10 +29,10 @@ use Rattle.chain.specs.StepList.{stepNumbers}
 use Rattle.stream.specs.declared.turns.Turn.{Turn}
 use Rattle.stream.specs.Obeyed.{Held, held, Holds}
 use Rattle.stream.specs.Turns.{Told, told, Takes}
-use Rattle.stream.specs.Ending.{endingIn}
+use Rattle.ending.specs.Ending.{endingIn}
 use Rattle.rules.specs.Stream.{room, printed, printedLength, Printed}
-use Rattle.stream.proofs.Keeping.{Bounded, empty-bounded}
-use Rattle.stream.proofs.Totals.{ending-is, totalled}
+use Rattle.rules.proofs.Limits.{Bounded, empty-bounded}
+use Rattle.ending.proofs.Totals.{ending-is, totalled}
 use Rattle.stream.proofs.Turned.{Turned, turned, lines-end}
 
 -- ---- the end
@@ -197,4 +197,4 @@ module _ (s before out : List ℕ) (h : Held) (at number end : ℕ) (r : Running
         let st = r .store in
         let g = r .going in
         prints-lines s before after n short large
-        (all-told s before out st at number end g short large after n l (named (ending-is h st (r .holds) (totalled st (g .ready) (g .bounded))) a))
+        (all-told s before out st at number end g short large after n l (named (ending-is (h .kept) (h .positions) (h .cash) st (r .holds .kept) (r .holds .positions) (r .holds .cash) (totalled st (g .ready) (g .bounded))) a))

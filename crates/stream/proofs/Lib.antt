@@ -3,8 +3,6 @@ pub mod Telling
 pub mod Table
 pub mod CallKinds
 pub mod Entered
-pub mod Keeping
-pub mod Totals
 pub mod Brief
 pub mod Turned
 pub mod Going

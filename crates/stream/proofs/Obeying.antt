@@ -18,7 +18,7 @@ use Rattle.rules.specs.Calls.{Halves, delivering, receiving, sideUnknown, sameS
 use Rattle.rules.specs.Stream.{programSteps}
 use Rattle.index.specs.Asked.{asked, askedOn}
 use Rattle.index.proofs.Answers.{answers}
-use Rattle.refusals.specs.Kept.{Kept, Keeps, refusalIn}
+use Rattle.refusals.specs.Kept.{Kept, keptIn, Keeps, refusalIn}
 use Rattle.entries.specs.Entered.{withRowIn, answered, left, keptBy, enteredIn, enteredBy, enterRow}
 use Rattle.entries.proofs.Keeping.{keeps-entered, answer-is}
 use Rattle.chain.specs.StepList.{stepsIn}
@@ -30,7 +30,7 @@ use Rattle.booking.specs.Payments.{payOutcome}
 use Rattle.booking.specs.Settling.{settleOutcome, SettledIn, Settles}
 use Rattle.booking.proofs.Settled.{settle-fits}
 use Rattle.booking.proofs.Calls.{core-moves, core-pays, core-settles}
-use Rattle.stream.specs.Obeyed.{keptIn, Held, held, Holds, Obeys, Does, Enters, Moves, Pays}
+use Rattle.stream.specs.Obeyed.{Held, held, Holds, Obeys, Does, Enters, Moves, Pays}
 
 -- ---- calls without a chain
 

@@ -19,7 +19,7 @@ use Rattle.wire.proofs.Found.{finds-end, finds-unknown, finds-cut, finds-comman
 use Rattle.stream.specs.Turns.{Told, stopped, done, toldBy, told}
 use Rattle.stream.proofs.Telling.{told-is}
 use Rattle.stream.proofs.CallKinds.{fits}
-use Rattle.stream.proofs.Keeping.{Bounded, bounded-kept}
+use Rattle.rules.proofs.Limits.{Bounded, desk-bounded}
 use Rattle.stream.proofs.Brief.{brief, stop-short}
 
 -- ---- the end of the input
@@ -100,7 +100,7 @@ module _ (s : List ℕ) (n at : ℕ) (st : Store) (low : n < 100_000) (before : 
         record {
           lines = command-lines;
           ready = core-ready (callOf tag operands) st ready;
-          bounded = rw same at (bounded-kept st bounded (callOf tag operands));
+          bounded = rw same at (desk-bounded (callOf tag operands) st bounded);
           on = omega (arith, h .starts, h .forward);
           within = h .inside;
           short = λ k. omega (arith, h .starts, h .forward);

@@ -1,4 +1,3 @@
 pub mod Obeyed
 pub mod Turns
-pub mod Ending
 pub mod Words

@@ -9,7 +9,7 @@ use lib.ListN.{length, take}
 use Rattle.rules.specs.declared.Answer.{Answer}
 use Rattle.rules.specs.Calls.{Halves, Store, Call, settle, derive, Outcome, core, countOf}
 use Rattle.rules.specs.Stream.{widthOf, programSteps}
-use Rattle.refusals.specs.Kept.{Kept, Keeps}
+use Rattle.refusals.specs.Kept.{Kept, keptIn, Keeps}
 use Rattle.chain.specs.StepList.{stepNumbers, stepsIn}
 
 -- What a stream holds from one command to the next: what is kept of its directory, its positions, its cash and its step list.
@@ -19,11 +19,7 @@ pub record Held : Type 0 where
   pub cash : List ℤ
   pub steps : List ℕ
 
--- what is kept of a directory: its numbers l and its identifiers b
-abbrev pub keptIn : List ℕ → List ℕ → Kept
-keptIn l b = record { numbers = l; names = b }
-
--- the same with the positions p, the cash c and the step list x
+-- what is kept of a directory, by its numbers l and its identifiers b, with the positions p, the cash c and the step list x
 abbrev pub held : List ℕ → List ℕ → List ℤ → List ℤ → List ℕ → Held
 held l b p c x = record { kept = keptIn l b; positions = p; cash = c; steps = x }
 

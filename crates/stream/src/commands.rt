@@ -36,7 +36,8 @@ ghost use Rattle.rules.specs.Calls.{Halves};
 ghost use Rattle.rules.specs.Stream.{callOf};
 ghost use Rattle.halves.specs.Halves.{inOrder, Handed};
 ghost use Rattle.wire.specs.Operands.{halvesIn, dayIn};
-ghost use Rattle.stream.specs.Obeyed.{keptIn, held, Does, Enters, Moves, Pays, Whole, instruction};
+ghost use Rattle.stream.specs.Obeyed.{held, Does, Enters, Moves, Pays, Whole, instruction};
+ghost use Rattle.refusals.specs.Kept.{keptIn};
 
 // 01 to 03 and 05, where the operands are whole.
 fn enter(index: &mut [u16; INDEX], names: &mut [u8; NAMES], tag: u8, operands: &[u8]) -> Answer

@@ -1,4 +1,4 @@
--- `stream::put_totals` meets its contract: after i turns the lines of i securities stand there. Assumes nothing.
+-- `ending::put_totals` meets its contract: after i turns the lines of i securities stand there. Assumes nothing.
 use mathlib.Core.Path.{_≡_, refl, ap, _∙_}
 use Prim.Native.Nat.{_-_, _≤_}
 use native.Mathlib.Omega.{arith}
@@ -7,11 +7,11 @@ use borrow.Author.Needs.{needs}
 use Rattle.rules.specs.Directory.{securityLimit}
 use Rattle.text.specs.Appended.{Appended}
 use Rattle.text.proofs.Appends.{no-bytes, then, named, front-of}
-use Rattle.stream.specs.Obeyed.{keptIn}
-use Rattle.stream.specs.Ending.{totalsIn, securitiesIn}
-use Rattle.stream.proofs.Totals.{counted, total-told}
-use Rattle.stream.proofs.put_totals.Statement.{statement}
-use Rattle.stream.proofs.put_totals.Tie as tie
+use Rattle.refusals.specs.Kept.{keptIn}
+use Rattle.ending.specs.Ending.{totalsIn, securitiesIn}
+use Rattle.ending.proofs.Totals.{counted, total-told}
+use Rattle.ending.proofs.put_totals.Statement.{statement}
+use Rattle.ending.proofs.put_totals.Tie as tie
 
 abbrev Inv-loop : tie.InvT-loop
 Inv-loop out₀ at index names positions count end₀ i₀ out end i =

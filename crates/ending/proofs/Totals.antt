@@ -22,15 +22,14 @@ use Rattle.rules.specs.Stream.{totalLine, totalLines, ending}
 use Rattle.rules.proofs.Basics.{or-false, ltb-true}
 use Rattle.rules.proofs.Soundness.{sound-gives}
 use Rattle.rules.proofs.Running.{Ready}
+use Rattle.rules.proofs.Limits.{Bounded}
 use Rattle.index.specs.Index.{securityCount, placeOf, numberAt}
 use Rattle.index.specs.Asked.{read, asked}
 use Rattle.index.proofs.Answers.{answers}
 use Rattle.identifiers.specs.Names.{isinOf}
 use Rattle.refusals.specs.Kept.{Kept, Keeps}
 use Rattle.identifiers.proofs.Identified.{isin-shown}
-use Rattle.stream.specs.Obeyed.{Held, Holds}
-use Rattle.stream.specs.Ending.{unitsIn, centsIn, totalIn, totalsIn, securitiesIn, endingIn, Totalled}
-use Rattle.stream.proofs.Keeping.{Bounded}
+use Rattle.ending.specs.Ending.{unitsIn, centsIn, totalIn, totalsIn, securitiesIn, endingIn, Totalled}
 use Rattle.holdings.specs.Sums.{securityTotal, cashTotal}
 
 -- ---- the lines of a directory's securities
@@ -99,11 +98,11 @@ module _ (k : Kept) (st : Store) (h : Keeps k (st .directory)) (t : Totalled st)
   all-are = rw (h .indexed .at securityCount tt) (min-eq-left (sound-gives (st .directory) (h .indexed .soundBooks) 0 .fewSecurities))
 
 -- what stands at the end
-pub ending-is : (h : Held) (st : Store) → Holds h st → Totalled st → endingIn (h .kept) (h .positions) (h .cash) ≡ ending st
+pub ending-is : (k : Kept) (p c : List ℤ) (st : Store) → Keeps k (st .directory) → p ≡ st .positions → c ≡ st .cash → Totalled st → endingIn k p c ≡ ending st
 unfolding endingIn ending centsIn
-ending-is h st i t =
+ending-is k p c st h e f t =
     let xs = rowsOf (st .directory) .securities in
-    rw (i .positions, i .cash, all-are (h .kept) st (i .kept) t, lines-are (h .kept) st (i .kept) t (length xs) (omega arith), take-all (length xs) xs (omega arith), t .cents)
+    rw (e, f, all-are k st h t, lines-are k st h t (length xs) (omega arith), take-all (length xs) xs (omega arith), t .cents)
 
 -- ---- no total is refused
 
@@ -125,7 +124,7 @@ totalled st h b =
       units = λ s l.
           rw (
             ltb-true s (length (rows .securities)) l,
-            none-beyond (participants (isKind (rows .accounts))) (heldIn (st .positions) s) accountLimit (λ a. b .units s a (omega arith)),
+            none-beyond (participants (isKind (rows .accounts))) (heldIn (st .positions) s) accountLimit (λ a. b .positions s a (omega arith)),
           );
-      cents = rw (none-beyond everyAccount (cashOn (st .cash)) cashCount (b .cents));
+      cents = rw (none-beyond everyAccount (cashOn (st .cash)) cashCount (b .cash));
     }

@@ -1,9 +1,9 @@
--- `stream::cents_of` meets its contract: the total's sum. Assumes nothing.
+-- `ending::cents_of` meets its contract: the total's sum. Assumes nothing.
 use mathlib.Core.Path.{sym, ap, _∙_}
 use borrow.Author.Needs.{needs}
-use Rattle.stream.specs.Ending.{centsIn}
-use Rattle.stream.proofs.cents_of.Statement.{statement}
-use Rattle.stream.proofs.cents_of.Tie as tie
+use Rattle.ending.specs.Ending.{centsIn}
+use Rattle.ending.proofs.cents_of.Statement.{statement}
+use Rattle.ending.proofs.cents_of.Tie as tie
 
 cash-total-requires : tie.Need-cash-total-requires
 cash-total-requires c κs = search needs

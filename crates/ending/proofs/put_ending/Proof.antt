@@ -1,11 +1,11 @@
--- `stream::put_ending` meets its contract: the totals, then the cash. Assumes nothing.
+-- `ending::put_ending` meets its contract: the totals, then the cash. Assumes nothing.
 use mathlib.Core.Path.{ap}
 use Rattle.rules.specs.Stream.{cashLine}
 use Rattle.text.proofs.Appends.{then, named}
 use borrow.Author.Needs.{needs}
-use Rattle.stream.specs.Ending.{endingIn}
-use Rattle.stream.proofs.put_ending.Statement.{statement}
-use Rattle.stream.proofs.put_ending.Tie as tie
+use Rattle.ending.specs.Ending.{endingIn}
+use Rattle.ending.proofs.put_ending.Statement.{statement}
+use Rattle.ending.proofs.put_ending.Tie as tie
 
 put-totals-requires : tie.Need-put-totals-requires
 put-totals-requires c κs = search needs

@@ -1,9 +1,9 @@
--- `stream::units_of` meets its contract: the total's sum. Assumes nothing.
+-- `ending::units_of` meets its contract: the total's sum. Assumes nothing.
 use mathlib.Core.Path.{sym, ap, _∙_}
 use borrow.Author.Needs.{needs}
-use Rattle.stream.specs.Ending.{unitsIn}
-use Rattle.stream.proofs.units_of.Statement.{statement}
-use Rattle.stream.proofs.units_of.Tie as tie
+use Rattle.ending.specs.Ending.{unitsIn}
+use Rattle.ending.proofs.units_of.Statement.{statement}
+use Rattle.ending.proofs.units_of.Tie as tie
 
 security-total-requires : tie.Need-security-total-requires
 security-total-requires c κs = search needs
