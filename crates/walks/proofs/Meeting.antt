@@ -54,6 +54,11 @@ module _ (h : ℕ → Hop) where
   runs-from c p e (suc i) (ends x) b = absurd (omega arith)
   runs-from c p e (suc i) (goes {n = n} {path = p′} x u) b = runs-from n p′ e i u (omega arith)
 
+  -- it names where it starts
+  first-named : (c : ℕ) (p : List ℕ) (e : WalkEnd) → Runs h c p e → (0 < length p) × (getD p 0 0 ≡ c)
+  first-named c p e (ends x) = (omega arith, refl)
+  first-named c p e (goes x u) = (omega arith, refl)
+
   module _ (a b : ℕ) (p q : List ℕ) (d e : WalkEnd) (u : Runs h a p d) (v : Runs h b q e) where
     -- two walks that name one CSD go on alike
     level : (i j : ℕ) → i < length p → j < length q → getD p i 0 ≡ getD q j 0 → drop i p ≡ drop j q
@@ -75,6 +80,14 @@ module _ (h : ℕ → Hop) where
         ap (λ (r : ℕ). getD p r 0) (ahead (length p) n i l)
         ∙ (sym (getD-drop i p t 0) ∙ (ap (λ (r : List ℕ). getD r t 0) f ∙ (getD-drop j q t 0 ∙ ap (λ (r : ℕ). getD q r 0) (behind (length p) (length q) n i j l (as-far i j g m x)))))
         )
+
+    -- with nothing in common at their ends the one does not name where the other starts
+    starts-unnamed : CommonEnd p q 0 → List·Memᴰ b p → ⊥
+    starts-unnamed k m = let x = place p b m in let f = first-named b q e v in early 0 k (x .0) 0 (omega (arith, x .1)) (f .0) (x .2 ∙ sym (f .1))
+
+-- the same from the other side
+pub common-turned : (p q : List ℕ) (n : ℕ) → CommonEnd p q n → CommonEnd q p n
+common-turned p q n k = record { few = k .few′; few′ = k .few; same = sym (k .same); most = λ l m e. k .most m l (sym e) }
 
 -- ---- default walks
 module _ (K : Lookups) (s : ℕ) where
@@ -213,6 +226,9 @@ module _ (K : Lookups) (s : ℕ) where
         inside = in-T2S (getD (w .path) (length (w .path) - suc m) 0) (drop (length (w .path) - suc m) (w .path)) (w .end)
             (runs-from (defaultHop K s) a (w .path) (w .end) (length (w .path) - suc m) runs-w (omega (arith, k .few)))
             (λ l. f (omega (arith, l, k .few, length-drop (length (w .path) - suc m) (w .path))))
+
+    pub unnamed : CommonEnd (w .path) (v .path) 0 → List·Memᴰ b (w .path) → ⊥
+    unnamed = starts-unnamed (defaultHop K s) a b (w .path) (v .path) (w .end) (v .end) runs-w runs-v
 
     pub meet-outside : (y : ℕ) → CommonEnd (w .path) (v .path) 1 → w .end ≡ Outside y → shared K w v ≡ none
     meet-outside y k f = rw (aw, av) (external-shared a b (w .path) (v .path) (w .end) (v .end) runs-w runs-v k outside)

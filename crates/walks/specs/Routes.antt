@@ -1,12 +1,13 @@
 -- What the code's routes stand for.
 use Prim.Native.Nat.{ℕ, zero, suc, _-_, _≤_, _<_}
 use mathlib.Core.Path.{_≡_}
-use mathlib.Core.Bool.{Bool, _||_}
+use mathlib.Core.Bool.{Bool, false, _||_}
 use mathlib.Core.List.{List}
 use mathlib.Core.Option.{none, some}
 use lib.Dec.{eqb}
 use lib.ListN.{length, take, drop, getD}
 use Rattle.rules.specs.declared.Join.{Join}
+use Rattle.rules.specs.Tests.{any}
 use Rattle.rules.specs.Lookups.{Lookups}
 use Rattle.rules.specs.Walks.{Walk, defaultWalk}
 use Rattle.rules.specs.Chain.{Route, sides, apart, shared, upTo}
@@ -36,6 +37,10 @@ Meets w v n =
 -- a walk directed to t may leave the default walk at the CSD c: it is the target, or has a link to it
 abbrev pub turns : Lookups → ℕ → ℕ → ℕ → Bool
 turns k s t c = eqb c t || k .linked s c t
+
+-- neither the walk from `from` to `to` nor the one back leaves its default walk
+abbrev pub Unturned : Lookups → ℕ → ℕ → ℕ → WalkFound → WalkFound → Type 0
+Unturned k s from to w v = (any (turns k s to) (named (w .side)) ≡ false) × (any (turns k s from) (named (v .side)) ≡ false)
 
 -- a refusal of 0 says that the sides join
 abbrev pub routeBy : ℕ → Join → List ℕ → List ℕ → Route

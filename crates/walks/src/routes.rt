@@ -16,6 +16,7 @@ use rules::Join;
 use rules::Verdict;
 use rules::WalkEnd;
 ghost use mathlib.Core.Path.{_≡_};
+ghost use mathlib.Core.Bool.{true};
 ghost use Rattle.rules.specs.Tests.{any};
 ghost use Rattle.rules.specs.Walks.{defaultWalk, directedWalk};
 ghost use Rattle.rules.specs.Chain.{judged, joinedBy, route};
@@ -23,7 +24,7 @@ ghost use Rattle.rules.specs.Chain.Route.{sides};
 ghost use Rattle.index.specs.Asked.{isTarget, askedOn};
 ghost use Rattle.walks.specs.Sides.{named};
 ghost use Rattle.walks.specs.Walks.{walkOf};
-ghost use Rattle.walks.specs.Routes.{CommonEnd, Meets, turns, routeOf};
+ghost use Rattle.walks.specs.Routes.{CommonEnd, Meets, turns, Unturned, routeOf};
 
 // How the sides join and the CSDs that they name; or the number that refuses the chain, 0 where there is one.
 pub struct RouteFound {
@@ -84,8 +85,9 @@ fn common_end(delivering: Side, receiving: Side) -> usize
 }
 
 // How many CSDs two default walks share, the first of them in T2S, if both end inside or outside; else 0. Walks that share a CSD go the same way from there
-// on, so that they share the CSDs at their ends.
-fn shared_csds(delivering: Walk, receiving: Walk) -> usize
+// on, so that they share the CSDs at their ends, of which they have `common` in common.
+fn shared_csds(delivering: Walk, receiving: Walk, common: usize) -> usize
+    requires { ⌜ CommonEnd (named (delivering .side)) (named (receiving .side)) common ⌝ }
     ensures { λ r. ⌜ Meets delivering receiving r ⌝ }
 {
     let up = delivering.end;
@@ -93,14 +95,13 @@ fn shared_csds(delivering: Walk, receiving: Walk) -> usize
     if !has_arrived(down) {
         return 0;
     }
-    let shared = common_end(delivering.side, receiving.side);
     match up {
-        WalkEnd::Inside(_) => shared,
+        WalkEnd::Inside(_) => common,
         WalkEnd::Outside(_) => {
-            if shared == 1 {
+            if common == 1 {
                 return 0;
             }
-            shared
+            common
         }
         WalkEnd::NoLink => 0,
         WalkEnd::TooLong => 0,
@@ -156,6 +157,40 @@ fn directed_from(
     walked
 }
 
+// Whether it is known at once that no directed walk leaves its default walk: both arrive, with no CSD in common, and no link for the security leads to
+// either CSD. Default walks with no CSD in common at their ends have none.
+fn none_turns(
+    index: &[u16; INDEX],
+    security: u8,
+    from: u8,
+    to: u8,
+    delivering: Walk,
+    receiving: Walk,
+    common: usize,
+    day: u16,
+) -> bool
+    requires { ⌜ (walkOf delivering ≡ defaultWalk (askedOn (now index) day) security from)
+        × (walkOf receiving ≡ defaultWalk (askedOn (now index) day) security to)
+        × CommonEnd (named (delivering .side)) (named (receiving .side)) common ⌝ }
+    ensures { λ r. ⌜ (r ≡ true → Unturned (askedOn (now (index .entry)) day) security from to delivering receiving) ⌝ }
+{
+    let up = delivering.end;
+    let down = receiving.end;
+    if common != 0 {
+        return false;
+    }
+    if !has_arrived(up) {
+        return false;
+    }
+    if !has_arrived(down) {
+        return false;
+    }
+    if is_target(index, security, to) {
+        return false;
+    }
+    !is_target(index, security, from)
+}
+
 // The four cases of document 01 on the day, from the delivering CSD to the receiving one.
 pub fn route_of(index: &[u16; INDEX], security: u8, from: u8, to: u8, day: u16) -> RouteFound
     ensures { λ r. ⌜ routeOf r ≡ route (askedOn (now (index .entry)) day) security from to ⌝ }
@@ -165,13 +200,26 @@ pub fn route_of(index: &[u16; INDEX], security: u8, from: u8, to: u8, day: u16) 
     }
     let delivering = default_walk(index, security, from, day);
     let receiving = default_walk(index, security, to, day);
-    let shared = shared_csds(delivering, receiving);
+    let common = common_end(delivering.side, receiving.side);
+    let shared = shared_csds(delivering, receiving, common);
     if 0 < shared {
         return joined(
             Join::Meeting,
             without_last(delivering.side, shared - 1),
             without_last(receiving.side, shared - 1),
         );
+    }
+    if none_turns(
+        index,
+        security,
+        from,
+        to,
+        delivering,
+        receiving,
+        common,
+        day,
+    ) {
+        return by_ends(delivering, receiving);
     }
     let towards = directed_from(index, security, to, from, delivering, day);
     let end = towards.end;

@@ -17,9 +17,6 @@ returns c k s from to w v =
     let a = c .before .before .args in
     unarrived′ k (walkOf (a .delivering)) (walkOf (a .receiving)) (sym (c .before .has-arrived .ensures) ∙ unnot _ (c .if1 .taken))
 
-common-end-requires : tie.Need-common-end-requires
-common-end-requires c κs = search needs
-
 enum-told : tie.Need-enum-told
 enum-told c = search needs
 
@@ -28,11 +25,11 @@ enum-told-2 c = search needs
 
 returns-2 : tie.Need-returns-2
 returns-2 c k s from to w v =
-    let a = c .before .before .before .before .before .before .args in
-    let av : arrived (a .receiving .end) ≡ true = sym (c .before .before .before .before .before .has-arrived .ensures) ∙ unnot-false _ (c .before .before .before .before .if1 .left) in
+    let a = c .before .before .before .before .before .args in
+    let av : arrived (a .receiving .end) ≡ true = sym (c .before .before .before .before .has-arrived .ensures) ∙ unnot-false _ (c .before .before .before .if1 .left) in
     let e = c .before .enum-told2 .given .1 in
     let aw : arrived (a .delivering .end) ≡ true = rw e in
-    meet-outside k s from to (walkOf (a .delivering)) (walkOf (a .receiving)) w v aw av _ (rw (c .if2 .taken) at (c .before .before .before .common-end .ensures)) e
+    meet-outside k s from to (walkOf (a .delivering)) (walkOf (a .receiving)) w v aw av _ (rw (c .if2 .taken) at (c .before .before .before .before .before .pre)) e
 
 enum-told-3 : tie.Need-enum-told-3
 enum-told-3 c = search needs
@@ -42,29 +39,29 @@ enum-told-4 c = search needs
 
 returns-3 : tie.Need-returns-3
 returns-3 c k s from to w v =
-    let a = c .before .before .before .before .before .args in
-    let av : arrived (a .receiving .end) ≡ true = sym (c .before .before .before .before .has-arrived .ensures) ∙ unnot-false _ (c .before .before .before .if1 .left) in
+    let a = c .before .before .before .before .args in
+    let av : arrived (a .receiving .end) ≡ true = sym (c .before .before .before .has-arrived .ensures) ∙ unnot-false _ (c .before .before .if1 .left) in
     let e = c .enum-told .given .1 in
     let aw : arrived (a .delivering .end) ≡ true = rw e in
-    meet k s from to (walkOf (a .delivering)) (walkOf (a .receiving)) w v aw av _ (c .before .before .common-end .ensures) (λ n y f. impossible (cc))
+    meet k s from to (walkOf (a .delivering)) (walkOf (a .receiving)) w v aw av _ (c .before .before .before .before .pre) (λ n y f. impossible (cc))
 
 returns-4 : tie.Need-returns-4
 returns-4 c k s from to w v =
-    let a = c .before .before .before .before .before .before .args in
-    let av : arrived (a .receiving .end) ≡ true = sym (c .before .before .before .before .before .has-arrived .ensures) ∙ unnot-false _ (c .before .before .before .before .if1 .left) in
+    let a = c .before .before .before .before .before .args in
+    let av : arrived (a .receiving .end) ≡ true = sym (c .before .before .before .before .has-arrived .ensures) ∙ unnot-false _ (c .before .before .before .if1 .left) in
     let e = c .before .enum-told2 .given .1 in
     let aw : arrived (a .delivering .end) ≡ true = rw e in
-    meet k s from to (walkOf (a .delivering)) (walkOf (a .receiving)) w v aw av _ (c .before .before .before .common-end .ensures) (λ n y f. c .if2 .left n)
+    meet k s from to (walkOf (a .delivering)) (walkOf (a .receiving)) w v aw av _ (c .before .before .before .before .before .pre) (λ n y f. c .if2 .left n)
 
 returns-5 : tie.Need-returns-5
 returns-5 c k s from to w v =
-    let a = c .before .before .before .before .before .args in
+    let a = c .before .before .before .before .args in
     let f : arrived (a .delivering .end) ≡ false = rw (c .enum-told3 .given .1) in
     unarrived k (walkOf (a .delivering)) (walkOf (a .receiving)) f
 
 returns-6 : tie.Need-returns-6
 returns-6 c k s from to w v =
-    let a = c .before .before .before .before .before .args in
+    let a = c .before .before .before .before .args in
     let f : arrived (a .delivering .end) ≡ false = rw (c .enum-told4 .given .1) in
     unarrived k (walkOf (a .delivering)) (walkOf (a .receiving)) f
 
@@ -74,7 +71,6 @@ shared-csds-spec =
     (tie.spec
     has-arrived-requires
     returns
-    common-end-requires
     enum-told
     enum-told-2
     returns-2
