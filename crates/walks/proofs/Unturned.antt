@@ -1,6 +1,6 @@
 -- Where no link for the security leads to a CSD, a walk directed to it leaves no path that does not name it.
 use Prim.Native.Nat.{ℕ}
-use mathlib.Core.Path.{_≡_, sym}
+use mathlib.Core.Path.{_≡_}
 use mathlib.Core.Bool.{false}
 use mathlib.Core.List.{List, List·Memᴰ}
 use borrow.Author.Tests.{ne-eqb}
