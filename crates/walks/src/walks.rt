@@ -9,7 +9,7 @@ use rules::Hop;
 use rules::SIDE;
 use rules::WalkEnd;
 ghost use mathlib.Core.Path.{_≡_};
-ghost use Prim.Native.Nat.{_≤_, _<_};
+ghost use Prim.Native.Nat.{_-_, _≤_, _<_};
 ghost use lib.ListN.{length};
 ghost use Rattle.rules.specs.Walks.{sideLimit, defaultHop, directedHop, walk, defaultWalk, directedWalk};
 ghost use Rattle.index.specs.Asked.{askedOn};
@@ -75,7 +75,7 @@ fn way_of(end: WalkEnd) -> usize
     }
 }
 
-// The walk from the CSD on, which may still name `left` CSDs, behind those named before. It answers one number for how many are named and the way in
+// The walk from the CSD on, which may still name `left` CSDs, behind the `named` ones before. It answers one number for how many are named and the way in
 // which it ended: a struct handed back through eight calls costs more than the walk.
 fn walk_from(
     index: &[u16; INDEX],
@@ -84,20 +84,31 @@ fn walk_from(
     target: u8,
     csd: u8,
     left: usize,
+    named: usize,
     csds: &mut [u8; SIDE],
     day: u16,
 ) -> usize
-    requires { ⌜ (left ≤ sideLimit) × (length (now csds) ≡ sideLimit) ⌝ }
+    requires { ⌜ (left ≤ sideLimit) × (named ≡ sideLimit - left) × (length (now csds) ≡ sideLimit) ⌝ }
     ensures { λ r. ⌜ WalksOn left (now (csds .entry))
         (walk (hopOf (askedOn (now (index .entry)) day) security directed target) left csd) r (now (csds .exit)) ⌝ }
 {
     if left == 0 {
         return WAYS * SIDE + way_of(WalkEnd::TooLong);
     }
-    csds[SIDE - left] = csd;
+    csds[named] = csd;
     match hop_at(index, security, directed, target, csd, day) {
-        Hop::Ends(end) => WAYS * (SIDE - left + 1) + way_of(end),
-        Hop::On(next) => walk_from(index, security, directed, target, next, left - 1, csds, day),
+        Hop::Ends(end) => WAYS * (named + 1) + way_of(end),
+        Hop::On(next) => walk_from(
+            index,
+            security,
+            directed,
+            target,
+            next,
+            left - 1,
+            named + 1,
+            csds,
+            day,
+        ),
     }
 }
 
@@ -129,7 +140,17 @@ fn whole_walk(
     ensures { λ r. ⌜ walkOf r ≡ walk (hopOf (askedOn (now (index .entry)) day) security directed target) sideLimit csd ⌝ }
 {
     let mut csds = [0u8; SIDE];
-    let told = walk_from(index, security, directed, target, csd, SIDE, &mut csds, day);
+    let told = walk_from(
+        index,
+        security,
+        directed,
+        target,
+        csd,
+        SIDE,
+        0,
+        &mut csds,
+        day,
+    );
     let count = told / WAYS;
     let last = csds[count - 1];
     Walk {

@@ -1,5 +1,5 @@
 -- The CSDs still allowed fall by one with each call; each call names one CSD and does what its hop says.
-use Prim.Native.Nat.{ℕ, _≤_, _<_}
+use Prim.Native.Nat.{ℕ, _-_, _≤_, _<_}
 use mathlib.Core.Path.{_≡_, sym, _∙_}
 use lib.ListN.{length}
 use native.Mathlib.Omega.{arith}
@@ -46,9 +46,6 @@ returns t c =
     let a = c .before .before .args in
     rw (c .way-of .ensures .0) (none-left (hopOf (askedOn (a .index .now) (a .day)) (a .security) (a .directed) (a .target)) (a .csds .now) (a .left) (a .csd) (c .before .if1 .taken))
 
-sub-csds : (t : ℕ) → lts.Need-sub-csds (known t) (at t) reads.Post
-sub-csds t c = search needs
-
 element-write-csds : (t : ℕ) → lts.Need-element-write-csds (known t) (at t) reads.Post
 element-write-csds t c = search needs
 
@@ -57,9 +54,6 @@ hop-at-requires t c κs = search needs
 
 enum-known-end : (t : ℕ) → lts.Need-enum-known-end (known t) (at t) reads.Post
 enum-known-end t c = search needs
-
-sub-result : (t : ℕ) → lts.Need-sub-result (known t) (at t) reads.Post
-sub-result t c = search needs
 
 add-result-2 : (t : ℕ) → lts.Need-add-result-2 (known t) (at t) reads.Post
 add-result-2 t c = search needs
@@ -79,15 +73,19 @@ enum-known-next t c = search needs
 sub-walk-from : (t : ℕ) → lts.Need-sub-walk-from (known t) (at t) reads.Post
 sub-walk-from t c = search needs
 
+add-walk-from : (t : ℕ) → lts.Need-add-walk-from (known t) (at t) reads.Post
+add-walk-from t c = search needs
+
 walk-from-requires : (t : ℕ) → lts.Need-walk-from-requires (known t) (at t) reads.Post
-walk-from-requires t c κs = search needs
+walk-from-requires t c κs = (search needs, (search needs, omega arith, search needs))
 
 returns-2 : (t : ℕ) → lts.Need-returns-2 (known t) (at t) reads.Post
 returns-2 t c =
     let a = c .before .before .before .before .before .before .args in
     let whole : length (a .csds .now) ≡ sideLimit = search needs in
     let few : a .left ≤ sideLimit = search needs in
-    rw (c .way-of2 .ensures .0) (ends-here (hopOf (askedOn (a .index .now) (a .day)) (a .security) (a .directed) (a .target)) (a .csds .now) (a .left) (a .csd) whole (c .before .before .before .before .before .if1 .left) few
+    let behind : a .named ≡ sideLimit - a .left = search needs in
+    rw (c .way-of2 .ensures .0, behind) (ends-here (hopOf (askedOn (a .index .now) (a .day)) (a .security) (a .directed) (a .target)) (a .csds .now) (a .left) (a .csd) whole (c .before .before .before .before .before .if1 .left) few
     (sym (c .before .before .before .before .hop-at .ensures) ∙ c .before .before .end .given .1))
 
 returns-3 : (t : ℕ) → lts.Need-returns-3 (known t) (at t) reads.Post
@@ -95,9 +93,10 @@ returns-3 t c =
     let a = c .before .before .before .before .before .before .before .args in
     let whole : length (a .csds .now) ≡ sideLimit = search needs in
     let few : a .left ≤ sideLimit = search needs in
+    let behind : a .named ≡ sideLimit - a .left = search needs in
     let rest = c .walk-from in
     goes-on (hopOf (askedOn (a .index .now) (a .day)) (a .security) (a .directed) (a .target)) (a .csds .now) (a .left) (a .csd) whole (c .before .before .before .before .before .before .if1 .left) few (rest .result) _
-    (sym (c .before .before .before .before .before .hop-at .ensures) ∙ c .before .before .before .next .given .1) (rest .ensures)
+    (sym (c .before .before .before .before .before .hop-at .ensures) ∙ c .before .before .before .next .given .1) (rw behind at (rest .ensures))
 
 pub +walk-from-spec : {M : Type 1} → statement M
 +walk-from-spec =
@@ -106,17 +105,16 @@ pub +walk-from-spec : {M : Type 1} → statement M
     (way-of-requires t)
     (add-result t)
     (returns t)
-    (sub-csds t)
     (element-write-csds t)
     (hop-at-requires t)
     (enum-known-end t)
-    (sub-result t)
     (add-result-2 t)
     (mul-result-2 t)
     (way-of-requires-2 t)
     (add-result-3 t)
     (enum-known-next t)
     (sub-walk-from t)
+    (add-walk-from t)
     (walk-from-requires t)
     (returns-2 t)
     (returns-3 t)
