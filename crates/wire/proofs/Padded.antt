@@ -7,8 +7,8 @@ use native.Mathlib.Omega.{arith}
 use mathlib.Core.List.{List, [], _∷_, _++_}
 use lib.ListN.{length, getD, take, drop, set, length-drop, length-append, List·getD-append}
 use lib.Seq.{take-suc, take-suc-set, getD-drop, getD-append-seam}
-use Rattle.rules.specs.Stream.{bytesAt, numberAt}
-use Rattle.wire.specs.Operands.{paddedAt}
+use Rattle.rules.specs.Stream.{bytesAt, numberAt, halfAt}
+use Rattle.wire.specs.Operands.{paddedAt, moveIn, paymentIn}
 
 -- one byte more
 pub more : (o into : List ℕ) (at i b : ℕ) → i < length into → take i into ≡ paddedAt o at i → b ≡ getD o (at + i) 0
@@ -44,11 +44,26 @@ byte-of o at (suc w) k h = go (byte-of o at w k) (decLt k w)
         ∙ getD-append-seam (paddedAt o at w) (getD o (at + w) 0) [] 0
         ∙ ap (λ (j : ℕ). getD o (at + j) 0) e
 
--- the number of them
-pub number-of : (o : List ℕ) (at w i : ℕ) → i ≤ w → numberAt (paddedAt o at w) 0 i ≡ numberAt o at i
+-- a number among them
+number-of : (o : List ℕ) (at w j i : ℕ) → j + i ≤ w → numberAt (paddedAt o at w) j i ≡ numberAt o (at + j) i
 unfolding numberAt
-number-of o at w zero h = refl
-number-of o at w (suc i) h =
-    let e : 0 + i ≡ i = omega arith in
-    ap (λ (x : ℕ). x * 256 + getD (paddedAt o at w) (0 + i) 0) (number-of o at w i (omega arith))
-    ∙ ap (λ (x : ℕ). numberAt o at i * 256 + x) (ap (λ (k : ℕ). getD (paddedAt o at w) k 0) e ∙ byte-of o at w i (omega arith))
+number-of o at w j zero h = refl
+number-of o at w j (suc i) h =
+    let e : at + (j + i) ≡ at + j + i = omega arith in
+    ap (λ (x : ℕ). x * 256 + getD (paddedAt o at w) (j + i) 0) (number-of o at w j i (omega arith))
+    ∙ ap (λ (x : ℕ). numberAt o (at + j) i * 256 + x) (byte-of o at w (j + i) (omega arith) ∙ ap (λ (k : ℕ). getD o k 0) e)
+
+-- the one that they begin with
+pub number-first : (o : List ℕ) (at w i : ℕ) → i ≤ w → numberAt (paddedAt o at w) 0 i ≡ numberAt o at i
+number-first o at w i h = let e : at + 0 ≡ at = omega arith in number-of o at w 0 i (omega arith) ∙ ap (λ (k : ℕ). numberAt o k i) e
+
+-- a movement, a payment and a half of them
+pub move-of : (o : List ℕ) → moveIn (paddedAt o 0 13) ≡ moveIn o
+move-of o = rw (number-of o 0 13 0 2 (omega arith), number-of o 0 13 2 1 (omega arith), number-of o 0 13 3 8 (omega arith), number-of o 0 13 11 2 (omega arith))
+
+pub payment-of : (o : List ℕ) → paymentIn (paddedAt o 0 10) ≡ paymentIn o
+payment-of o = rw (number-of o 0 10 0 2 (omega arith), number-of o 0 10 2 8 (omega arith))
+
+pub half-of : (o : List ℕ) (at : ℕ) → halfAt (paddedAt o at 20) 0 ≡ halfAt o at
+half-of o at =
+    rw (number-first o at 20 2 (omega arith), number-of o at 20 2 1 (omega arith), number-of o at 20 3 1 (omega arith), number-of o at 20 4 8 (omega arith), number-of o at 20 12 8 (omega arith))

@@ -108,16 +108,6 @@ fn two_bytes(operands: &[u8], at: usize) -> u16
     whole_two(&padded, 0)
 }
 
-// The number of 8 bytes, where the part may lack some of them.
-fn eight_bytes(operands: &[u8], at: usize) -> u64
-    requires { ⌜ at < 256 ⌝ }
-    ensures { λ r. ⌜ r ≡ numberAt (now (operands .entry)) at 8 ⌝ }
-{
-    let mut padded = [0u8; 8];
-    copy_bytes(operands, at, &mut padded);
-    whole_eight(&padded, 0)
-}
-
 // "01 type 1, BIC 11"
 pub fn decode_csd(operands: &[u8]) -> Csd
     ensures { λ r. ⌜ r ≡ csdIn (now (operands .entry)) ⌝ }
@@ -188,22 +178,6 @@ pub fn decode_link(operands: &[u8]) -> Link
     }
 }
 
-// A movement of which the part may lack some bytes.
-fn short_move(operands: &[u8]) -> Move
-    ensures { λ r. ⌜ r ≡ moveIn (now (operands .entry)) ⌝ }
-{
-    let account = two_bytes(operands, 0);
-    let security = one_byte(operands, 2);
-    let quantity = eight_bytes(operands, 3);
-    let day = two_bytes(operands, 11);
-    Move {
-        account,
-        security,
-        quantity,
-        day,
-    }
-}
-
 // A movement that the part has whole.
 fn whole_move(operands: &[u8]) -> Move
     requires { ⌜ 13 ≤ length (now operands) ⌝ }
@@ -221,6 +195,15 @@ fn whole_move(operands: &[u8]) -> Move
     }
 }
 
+// One of which it may lack some bytes.
+fn short_move(operands: &[u8]) -> Move
+    ensures { λ r. ⌜ r ≡ moveIn (now (operands .entry)) ⌝ }
+{
+    let mut padded = [0u8; MOVE];
+    copy_bytes(operands, 0, &mut padded);
+    whole_move(&padded)
+}
+
 // "06 in, 07 out: account 2, security 1, quantity 8"; they "carry a day as their last 2 bytes"
 pub fn decode_move(operands: &[u8]) -> Move
     ensures { λ r. ⌜ r ≡ moveIn (now (operands .entry)) ⌝ }
@@ -229,15 +212,6 @@ pub fn decode_move(operands: &[u8]) -> Move
         return whole_move(operands);
     }
     short_move(operands)
-}
-
-// A payment of which the part may lack some bytes.
-fn short_payment(operands: &[u8]) -> Payment
-    ensures { λ r. ⌜ r ≡ paymentIn (now (operands .entry)) ⌝ }
-{
-    let account = two_bytes(operands, 0);
-    let amount = eight_bytes(operands, 2);
-    Payment { account, amount }
 }
 
 // A payment that the part has whole.
@@ -250,6 +224,15 @@ fn whole_payment(operands: &[u8]) -> Payment
     Payment { account, amount }
 }
 
+// One of which it may lack some bytes.
+fn short_payment(operands: &[u8]) -> Payment
+    ensures { λ r. ⌜ r ≡ paymentIn (now (operands .entry)) ⌝ }
+{
+    let mut padded = [0u8; PAYMENT];
+    copy_bytes(operands, 0, &mut padded);
+    whole_payment(&padded)
+}
+
 // "08 in, 09 out: account 2, amount 8"
 pub fn decode_payment(operands: &[u8]) -> Payment
     ensures { λ r. ⌜ r ≡ paymentIn (now (operands .entry)) ⌝ }
@@ -258,25 +241,6 @@ pub fn decode_payment(operands: &[u8]) -> Payment
         return whole_payment(operands);
     }
     short_payment(operands)
-}
-
-// A half of which the part may lack some bytes.
-fn short_half(operands: &[u8], at: usize) -> Half
-    requires { ⌜ at < 64 ⌝ }
-    ensures { λ r. ⌜ r ≡ halfAt (now (operands .entry)) at ⌝ }
-{
-    let account = two_bytes(operands, at);
-    let counterpart = one_byte(operands, at + 2);
-    let security = one_byte(operands, at + 3);
-    let quantity = eight_bytes(operands, at + 4);
-    let amount = eight_bytes(operands, at + 12);
-    Half {
-        account,
-        counterpart,
-        security,
-        quantity,
-        amount,
-    }
 }
 
 // A half that the part has whole.
@@ -296,6 +260,16 @@ fn whole_half(operands: &[u8], at: usize) -> Half
         quantity,
         amount,
     }
+}
+
+// One of which it may lack some bytes.
+fn short_half(operands: &[u8], at: usize) -> Half
+    requires { ⌜ at < 64 ⌝ }
+    ensures { λ r. ⌜ r ≡ halfAt (now (operands .entry)) at ⌝ }
+{
+    let mut padded = [0u8; HALF];
+    copy_bytes(operands, at, &mut padded);
+    whole_half(&padded, 0)
 }
 
 // "each account 2, counterpart CSD 1, security 1, quantity 8, amount 8"

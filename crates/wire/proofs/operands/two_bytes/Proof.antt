@@ -2,7 +2,7 @@
 use borrow.Author.Needs.{needs}
 use native.Mathlib.Omega.{arith}
 use mathlib.Core.Path.{_∙_}
-use Rattle.wire.proofs.Padded.{number-of}
+use Rattle.wire.proofs.Padded.{number-first}
 use Rattle.wire.proofs.operands.two_bytes.Statement.{statement}
 use Rattle.wire.proofs.operands.two_bytes.Tie as tie
 
@@ -28,7 +28,7 @@ whole-two-requires-2 : tie.Need-whole-two-requires-2
 whole-two-requires-2 c κs = search needs
 
 returns-2 : tie.Need-returns-2
-returns-2 c = c .whole-two2 .ensures ∙ (rw (c .before .before .before .copy-bytes .ensures) (number-of _ _ 2 2 (omega arith)))
+returns-2 c = c .whole-two2 .ensures ∙ (rw (c .before .before .before .copy-bytes .ensures) (number-first _ _ 2 2 (omega arith)))
 
 pub two-bytes-spec : {M : Type 1} → statement M
 two-bytes-spec =
