@@ -178,6 +178,10 @@ module _ (s before out : List ℕ) (h : Held) (at number end : ℕ) (r : Running
   cash-long = sym (ap length (r .holds .cash) ∙ r .going .ready .cash)
 
   module _ (short : length s ≤ inputLimit) (large : room ≤ length before) where
+    -- a turn's number is small, and there is room for its lines
+    pub turn-fits : at < length s → (number + 1 < 1_000_000) × (end + 400 ≤ length out)
+    turn-fits l = let g = r .going in (omega (arith, g .counted), omega (arith, g .roomy l, g .same))
+
     module _ (l : at < length s) (after : List ℕ) (t : Turn) (h′ : Held) (k : Takes (told s (number + 1) at (r .store)) out end after t h′) where
       pub runs-on : Running s before after h′ (t .at) (number + 1) (t .end)
       runs-on =

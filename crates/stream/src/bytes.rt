@@ -1,19 +1,16 @@
 // A few bytes behind a text, where there is room for them.
 ghost use mathlib.Core.Path.{_≡_};
-ghost use mathlib.Core.Bool.{true};
 ghost use Prim.Native.Nat.{_+_, _≤_};
 ghost use mathlib.Core.List.{_∷_, []};
 ghost use lib.ListN.{length};
 ghost use Rattle.text.specs.Appended.{Appended};
 
-// There is room for so many bytes at a place.
-pub(crate) fn has_room(out: &[u8], at: usize, bytes: usize) -> bool
-    ensures { λ r. ⌜ (r ≡ true → at + bytes ≤ length (now (out .entry))) ⌝ }
+pub(crate) fn put_one(out: &mut [u8], at: usize, a: u8) -> usize
+    requires { ⌜ at + 1 ≤ length (now out) ⌝ }
+    ensures { λ r. ⌜ Appended (now (out .entry)) at (now (out .exit)) r (a ∷ []) × (r ≡ at + 1) ⌝ }
 {
-    if out.len() < bytes {
-        return false;
-    }
-    at <= out.len() - bytes
+    out[at] = a;
+    at + 1
 }
 
 pub(crate) fn put_two(out: &mut [u8], at: usize, a: u8, b: u8) -> usize

@@ -8,14 +8,16 @@ use rules::ACCOUNTS;
 use rules::POSITIONS;
 use text::pieces::put_word;
 use turns::take_turn;
+use words::THOUSAND;
 use words::WORDS;
+use words::put_sizes;
 use words::put_words;
 ghost use Rattle.rules.specs.Stream.{transcript};
 ghost use Rattle.rules.specs.Stream.{Printed};
 
 pub mod commands; // commands.rt: one command's operands decoded, and its call made
 mod bytes; // bytes.rt: a few bytes, where there is room
-mod words; // words.rt: the table of words, and numbers by it
+mod words; // words.rt: the tables of words and sizes, and numbers by them
 mod lines; // lines.rt: a command's lines
 pub mod turns; // turns.rt: the command at a place, and its lines
 
@@ -42,9 +44,13 @@ pub fn run(input: &[u8], output: &mut [u8]) -> usize
     let mut cash = [0i64; ACCOUNTS];
     let mut steps = [0u16; STEP_NUMBERS];
     let mut words = [0u8; WORDS];
-    put_words(&mut words);
+    put_words(&mut words, b' ');
+    let mut lasts = [0u8; WORDS];
+    put_words(&mut lasts, b'\n');
+    let mut sizes = [0u8; THOUSAND];
+    put_sizes(&mut sizes);
     let mut at: usize = 0;
-    let mut number: u64 = 0;
+    let mut number: u32 = 0;
     let mut end: usize = 0;
     while at < input.len() {
         number += 1;
@@ -60,6 +66,8 @@ pub fn run(input: &[u8], output: &mut [u8]) -> usize
             output,
             end,
             &words,
+            &lasts,
+            &sizes,
         );
         at = turn.at;
         end = turn.end;

@@ -1,15 +1,12 @@
 // The lines of document 01's "Commands and program".
 use crate::pieces::put_counted;
-use crate::pieces::put_decimal;
 use crate::pieces::put_signed;
 use crate::pieces::put_word;
-use rules::Answer;
 use rules::Cents;
 use rules::ISIN;
 use rules::Step;
 use rules::Units;
-ghost use mathlib.Core.List.{[]};
-ghost use Rattle.rules.specs.Stream.{stepLine, answerText, said, totalLine, cashLine};
+ghost use Rattle.rules.specs.Stream.{stepLine, totalLine, cashLine};
 ghost use Rattle.text.specs.Appended.{Appended};
 
 // "a line per step: `-`, CSD, debited, credited"
@@ -19,28 +16,6 @@ pub fn put_step(out: &mut [u8], at: usize, step: Step) -> usize
     let a = put_counted(out, at, b"- ", step.csd as u64);
     let b = put_counted(out, a, b" ", step.debited as u64);
     let c = put_counted(out, b, b" ", step.credited as u64);
-    put_word(out, c, b"\n")
-}
-
-// "`ok`, `no` and the refusal, or `booked` / `chain` and K"
-pub fn put_answer(out: &mut [u8], at: usize, answer: Answer) -> usize
-    ensures { λ r. ⌜ Appended (now (out .entry)) at (now (out .exit)) r (answerText answer) ⌝ }
-{
-    match answer {
-        Answer::Accepted => put_word(out, at, b"ok"),
-        Answer::Booked(k) => put_counted(out, at, b"booked ", k as u64),
-        Answer::Chained(k) => put_counted(out, at, b"chain ", k as u64),
-        Answer::Refused(n) => put_counted(out, at, b"no ", n as u64),
-    }
-}
-
-// The line of command `number`, without steps.
-pub fn put_line(out: &mut [u8], at: usize, number: u64, answer: Answer) -> usize
-    ensures { λ r. ⌜ Appended (now (out .entry)) at (now (out .exit)) r (said number answer []) ⌝ }
-{
-    let a = put_decimal(out, at, number);
-    let b = put_word(out, a, b" ");
-    let c = put_answer(out, b, answer);
     put_word(out, c, b"\n")
 }
 

@@ -13,11 +13,11 @@ use Rattle.stream.proofs.lines.put_short_steps.Statement.{statement}
 use Rattle.stream.proofs.lines.put_short_steps.Tie as tie
 
 abbrev Inv-loop : tie.InvT-loop
-Inv-loop out₀ at k steps words end₀ i₀ out end i =
+Inv-loop out₀ at k steps words lasts sizes end₀ i₀ out end i =
     (i ≤ k) × (length out ≡ length out₀) × Appended out₀ at out end (stepLines (stepsIn steps i)) × (end + 20 * (k - i) ≤ length out)
 
 abbrev μ-loop : tie.MeasureT-loop
-μ-loop out₀ at k steps words end₀ i₀ out end i = k - i
+μ-loop out₀ at k steps words lasts sizes end₀ i₀ out end i = k - i
 
 loop-holds : tie.Need-loop-holds Inv-loop μ-loop
 unfolding stepLines stepsIn
@@ -26,8 +26,8 @@ loop-holds c = (omega arith, refl, no-bytes _ _ _ (omega arith), omega arith)
 step-at-requires : tie.Need-step-at-requires Inv-loop μ-loop
 step-at-requires c κs = search needs
 
-put-short-step-requires : tie.Need-put-short-step-requires Inv-loop μ-loop
-put-short-step-requires c κs = search needs
+put-step-by-requires : tie.Need-put-step-by-requires Inv-loop μ-loop
+put-step-by-requires c κs = search needs
 
 add-i : tie.Need-add-i Inv-loop μ-loop
 add-i c = search needs
@@ -38,7 +38,7 @@ loop-less c = search needs
 loop-again : tie.Need-loop-again Inv-loop μ-loop
 loop-again c =
     let l = c .before .before .before .before .before .before .loop in
-    let put = c .before .before .put-short-step .ensures .0 in (
+    let put = c .before .before .put-step-by .ensures .0 in (
       search needs,
       put .same ∙ l .inv .1,
       step-more (c .before .before .before .before .before .before .before .before .before .args .steps .now) (l .i) _ (c .before .before .before .step-at .ensures) (l .inv .2) put,
@@ -63,7 +63,7 @@ put-short-steps-spec =
     μ-loop
     loop-holds
     step-at-requires
-    put-short-step-requires
+    put-step-by-requires
     add-i
     loop-less
     loop-again

@@ -1,7 +1,5 @@
 -- `stream::lines::put_steps` meets its contract: where there is room for the longest chain, there is for its first k steps. Assumes nothing.
 use borrow.Author.Needs.{needs}
-use native.Mathlib.Omega.{arith}
-use borrow.Author.Tests.{not-false}
 use Rattle.stream.proofs.lines.put_steps.Statement.{statement}
 use Rattle.stream.proofs.lines.put_steps.Tie as tie
 
@@ -14,29 +12,14 @@ same-length c = search needs
 returns : tie.Need-returns
 returns c = search needs
 
-mul-has-room : tie.Need-mul-has-room
-mul-has-room c = search needs
-
-has-room-requires : tie.Need-has-room-requires
-has-room-requires c κs = search needs
-
-put-any-steps-requires-2 : tie.Need-put-any-steps-requires-2
-put-any-steps-requires-2 c κs = search needs
+put-short-steps-requires : tie.Need-put-short-steps-requires
+put-short-steps-requires c κs = search needs
 
 same-length-2 : tie.Need-same-length-2
 same-length-2 c = search needs
 
 returns-2 : tie.Need-returns-2
 returns-2 c = search needs
-
-put-short-steps-requires : tie.Need-put-short-steps-requires
-put-short-steps-requires c κs = (omega (arith, c .before .before .has-room .ensures (not-false _ (c .before .if2 .left))), search needs)
-
-same-length-3 : tie.Need-same-length-3
-same-length-3 c = search needs
-
-returns-3 : tie.Need-returns-3
-returns-3 c = search needs
 
 pub put-steps-spec : {M : Type 1} → statement M
 put-steps-spec =
@@ -45,11 +28,6 @@ put-steps-spec =
     put-any-steps-requires
     same-length
     returns
-    mul-has-room
-    has-room-requires
-    put-any-steps-requires-2
-    same-length-2
-    returns-2
     put-short-steps-requires
-    same-length-3
-    returns-3)
+    same-length-2
+    returns-2)

@@ -1,7 +1,8 @@
 -- `stream::turns::take_turn` meets its contract: by what stands at the place, nothing, a stop, or a command obeyed and told. Assumes nothing.
 use mathlib.Core.Path.{sym, _∙_}
 use native.Mathlib.Omega.{arith}
-use Rattle.text.proofs.Appends.{front-of}
+use Rattle.text.proofs.Appends.{ends-by}
+use Rattle.text.proofs.Lengths.{line-long}
 use Rattle.wire.proofs.Found.{stands, operands-long}
 use Rattle.stream.proofs.Telling.{takes-nothing, takes-unknown, takes-cut, takes-command}
 use borrow.Author.Needs.{needs}
@@ -63,13 +64,17 @@ obey-requires : tie.Need-obey-requires
 obey-requires c κs = search needs
 
 put-line-by-requires : tie.Need-put-line-by-requires
-put-line-by-requires c κs = search needs
+put-line-by-requires c κs = let s = c .before .before .before .before .before .before .before .before .before .before .before .before .before .before .before .before .before .before .before in (s .pre .0, omega (arith, s .pre .1), s .pre .2, s .pre .3)
 
 count-of-requires : tie.Need-count-of-requires
 count-of-requires c κs = search needs
 
 put-steps-requires : tie.Need-put-steps-requires
-put-steps-requires c κs = (front-of (c .before .before .before .before .before .put-line-by .ensures) .0, search needs)
+put-steps-requires c κs =
+    let put = c .before .before .before .before .before .put-line-by .ensures in
+    let s = c .before .before .before .before .before .before .before .before .before .before .before .before .before .before .before .before .before .before .before .before .before .before .before .before .before in
+    let long = line-long (s .args .number) (c .before .before .before .before .before .before .before .before .before .before .before .obey .result) in
+    (omega (arith, ends-by put, put .same), s .pre .2, s .pre .3, s .pre .4)
 
 same-length : tie.Need-same-length
 same-length c = search needs

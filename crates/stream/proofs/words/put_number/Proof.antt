@@ -9,20 +9,26 @@ use Rattle.stream.proofs.Table.{six-digits}
 use Rattle.stream.proofs.words.put_number.Statement.{statement}
 use Rattle.stream.proofs.words.put_number.Tie as tie
 
-put-spaced-requires : tie.Need-put-spaced-requires
-put-spaced-requires c κs = search needs
+put-short-requires : tie.Need-put-short-requires
+put-short-requires c κs = search needs
 
 same-length : tie.Need-same-length
 same-length c = search needs
 
 returns : tie.Need-returns
-returns c = search needs
+returns c = let put = c .before .before .put-short in (put .ensures .0 32 (c .before .before .before .before .before .before .pre .2), search needs)
+
+cast-word : tie.Need-cast-word
+cast-word c = search needs
 
 mul-word : tie.Need-mul-word
 mul-word c = search needs
 
-put-spaced-requires-2 : tie.Need-put-spaced-requires-2
-put-spaced-requires-2 c κs = search needs
+cast-put-short : tie.Need-cast-put-short
+cast-put-short c = search needs
+
+put-short-requires-2 : tie.Need-put-short-requires-2
+put-short-requires-2 c κs = search needs
 
 element-copy-out-hundreds : tie.Need-element-copy-out-hundreds
 element-copy-out-hundreds c = search needs
@@ -58,10 +64,11 @@ returns-2 : tie.Need-returns-2
 returns-2 c =
     let start = c .before .before .before .before .before .before .before .before .before .before .before .before .before .before in
     let n = start .args .n in
-    let high = c .before .before .before .before .before .before .before .before .before .before .put-spaced2 .ensures in
+    let e = start .pre .2 in
+    let high = c .before .before .before .before .before .before .before .before .before .before .put-short2 .ensures in
     let m : n / 1_000 < 10 ^ 3 = omega arith in (
-      named (six-digits (start .args .words .now) (start .pre .2) n (omega arith) (omega arith))
-          (over (decimal (n / 1_000)) 32 (high .0) (omega (arith, short-decimal 2 (n / 1_000) m)) (omega arith) (c .before .before .put-four .ensures .0)),
+      named (six-digits (start .args .words .now) 32 e n (omega arith) (omega arith))
+          (over (decimal (n / 1_000)) 32 (high .0 32 e) (omega (arith, short-decimal 2 (n / 1_000) m)) (omega arith) (c .before .before .put-four .ensures .0)),
       search needs,
     )
 
@@ -69,11 +76,13 @@ pub put-number-spec : {M : Type 1} → statement M
 put-number-spec =
     tie.close
     (tie.spec
-    put-spaced-requires
+    put-short-requires
     same-length
     returns
+    cast-word
     mul-word
-    put-spaced-requires-2
+    cast-put-short
+    put-short-requires-2
     element-copy-out-hundreds
     add-tens
     element-copy-out-tens

@@ -12,13 +12,13 @@ use Rattle.stream.proofs.words.put_words.Statement.{statement}
 use Rattle.stream.proofs.words.put_words.Tie as tie
 
 abbrev Inv-loop : tie.InvT-loop
-Inv-loop words₀ n₀ words n = (n ≤ 1_000) × (1 ≤ n → length words ≡ 4_000) × (take (4 * n) words ≡ wordsTo n)
+Inv-loop words₀ last n₀ words n = (n ≤ 1_000) × (1 ≤ n → length words ≡ 4_000) × (take (4 * n) words ≡ wordsTo last n)
 
 abbrev μ-loop : tie.MeasureT-loop
-μ-loop words₀ n₀ words n = 1_000 - n
+μ-loop words₀ last n₀ words n = 1_000 - n
 
 loop-holds : tie.Need-loop-holds Inv-loop μ-loop
-loop-holds c = (omega arith, λ h. absurd (omega arith), sym no-words)
+loop-holds c = (omega arith, λ h. absurd (omega arith), sym (no-words (c .args .last)))
 
 cast-hundreds : tie.Need-cast-hundreds Inv-loop μ-loop
 cast-hundreds c = search needs
@@ -53,15 +53,16 @@ loop-less c = search needs
 loop-again : tie.Need-loop-again Inv-loop μ-loop
 loop-again c =
     let l = c .before .before .before .loop in
+    let b = c .before .before .before .before .args .last in
     let put = c .put-four .ensures in
     let e : c .put-four .result ≡ 4 * (l .n + 1) = omega arith in (
       omega arith,
       λ h. omega (arith, put .0 .same),
-      ap (λ (m : ℕ). take m (c .put-four .last .0)) (sym e) ∙ (fits (put .0) (omega arith) .front ∙ (ap (λ (s : List ℕ). s ++ wordOf (l .n)) (l .inv .2) ∙ word-more (l .n))),
+      ap (λ (m : ℕ). take m (c .put-four .last .0)) (sym e) ∙ (fits (put .0) (omega arith) .front ∙ (ap (λ (s : List ℕ). s ++ wordOf b (l .n)) (l .inv .2) ∙ word-more b (l .n))),
     )
 
 returns : tie.Need-returns Inv-loop μ-loop
-returns c = let l = c .before .loop in all-words (l .n) (l .words) (omega arith) (l .inv .1 (omega arith)) (l .inv .2)
+returns c = let l = c .before .loop in all-words (c .before .before .args .last) (l .n) (l .words) (omega arith) (l .inv .1 (omega arith)) (l .inv .2)
 
 pub put-words-spec : {M : Type 1} → statement M
 put-words-spec =
