@@ -1,16 +1,17 @@
--- A chain along a route whose sides are climbed, and what its being found says of a lent list.
+-- A chain along a route whose sides are climbed, a chain inside one CSD, and what a chain's being found says of a lent list.
 use Prim.Native.Nat.{ℕ, zero, suc, _≤_}
 use mathlib.Core.Path.{_≡_, refl, sym, ap, _∙_}
 use mathlib.Core.Bool.{Bool, true, false, _&&_, cond}
-use mathlib.Core.List.{List, _++_, append-assoc}
+use mathlib.Core.List.{List, [], _∷_, _++_, append-assoc}
 use native.Mathlib.Omega.{arith}
 use Rattle.rules.specs.declared.Step.{Step}
 use Rattle.rules.specs.Lookups.{Lookups}
-use Rattle.rules.specs.Chain.{Chain, chained, unchained, climbed, unpaired, climb, linkUp, topSteps, lastOf, turned, along, stepLimit}
+use Rattle.rules.specs.Chain.{Chain, chained, unchained, climbed, unpaired, climb, linkUp, topSteps, lastOf, turned, along, chain, step, stepLimit}
 use Rattle.rules.proofs.Basics.{clash, and-both}
 use Rattle.walks.specs.Sides.{named}
 use Rattle.walks.specs.Routes.{routeOf, routeBy}
 use Rattle.walks.specs.declared.routes.RouteFound.{RouteFound}
+use Rattle.walks.proofs.Routing.{same-csd}
 use Rattle.chain.specs.StepList.{stepsIn, Holds}
 use Rattle.chain.specs.Steps.{climbIn, FoundIn, chainBy}
 use Rattle.chain.specs.declared.steps.Reached.{Reached}
@@ -68,3 +69,8 @@ module _ (K : Lookups) (s a b : ℕ) (x : RouteFound) where
     pub along-paired : (u .paired && v .paired) ≡ true → (i j : ℕ) → i ≡ lastOf (named (x .delivering)) → j ≡ lastOf (named (x .receiving))
         → along K s a b (routeOf x) ≡ chained ((stepsIn k (u .count) ++ topSteps K s (x .join) i j (u .account) (v .account)) ++ turned (stepsIn m (v .count)))
     along-paired e i j f g = let t = and-both (u .paired) (v .paired) e in rw (z, ← up, ← down, t .0, t .1, f, g, append-assoc)
+
+-- ---- inside one CSD: no link is read, and neither side has a step
+pub chain-inside : (K : Lookups) (s a b c : ℕ) → c ≡ K .home a → c ≡ K .home b → chain K s a b ≡ chained (step c a b ∷ [])
+unfolding chain climb lastOf turned
+chain-inside K s a b c e f = rw (← e, ← f, ← same-csd K s c c refl)

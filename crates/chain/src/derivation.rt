@@ -1,6 +1,7 @@
 // The chain between two accounts, and the derivation for two halves.
 use crate::step_list::STEP_NUMBERS;
 use crate::steps::Found;
+use crate::steps::one_step;
 use crate::steps::steps_along;
 use halves::halves_refusal;
 use index::lookups::home_of;
@@ -30,6 +31,9 @@ pub fn chain_of(
     }
     let from = home_of(index, delivering);
     let to = home_of(index, receiving);
+    if from == to {
+        return one_step(steps, from, delivering, receiving);
+    }
     let route = route_of(index, security, from, to, day);
     steps_along(index, security, delivering, receiving, route, steps, day)
 }

@@ -1,5 +1,5 @@
 // The steps of a chain along a route: each side is climbed from its account into a list of its own, and only when both have all their pairs are the
-// delivering side, what stands between the sides, and the receiving side turned round put into the lent list.
+// delivering side, what stands between the sides, and the receiving side turned round put into the lent list. A chain inside one CSD is one step.
 use crate::step_list::STEP_NUMBERS;
 use crate::step_list::put_step;
 use crate::step_list::step_in;
@@ -11,15 +11,14 @@ use rules::Join;
 use rules::SIDE;
 use rules::Step;
 use walks::routes::RouteFound;
-use walks::sides::Side;
 use walks::sides::last_of;
 ghost use mathlib.Core.Path.{_≡_};
+ghost use mathlib.Core.List.{[], _∷_};
 ghost use Prim.Native.Nat.{_+_, _≤_, _<_};
-ghost use lib.ListN.{length};
+ghost use lib.ListN.{length, take};
 ghost use Rattle.rules.specs.Walks.{sideLimit};
-ghost use Rattle.rules.specs.Chain.{climb, topSteps, turned, along, stepLimit};
+ghost use Rattle.rules.specs.Chain.{chained, step, climb, topSteps, turned, along, stepLimit};
 ghost use Rattle.index.specs.Asked.{asked, askedOn};
-ghost use Rattle.walks.specs.Sides.{named};
 ghost use Rattle.walks.specs.Routes.{routeOf};
 ghost use Rattle.chain.specs.StepList.{stepNumbers, stepsIn};
 ghost use Rattle.chain.specs.Steps.{climbIn, Adds, FoundIn};
@@ -37,23 +36,23 @@ pub struct Found {
     pub count: usize,
 }
 
-// The steps of a side from its account up, put at the front of the list.
+// The steps of a side, whose CSDs are the first `count` of those lent, from its account up, put at the front of the list.
 fn climb_side(
     index: &[u16; INDEX],
-    side: Side,
+    csds: &[u8],
+    count: usize,
     account: u16,
     steps: &mut [u16; STEP_NUMBERS],
 ) -> Reached
-    requires { ⌜ length (now steps) ≡ stepNumbers ⌝ }
-    ensures climbed { λ r. ⌜ climbIn r (now (steps .exit)) ≡ climb (asked (now (index .entry))) (named side) account ⌝ }
+    requires { ⌜ (length (now csds) ≡ sideLimit) × (length (now steps) ≡ stepNumbers) ⌝ }
+    ensures climbed { λ r. ⌜ climbIn r (now (steps .exit)) ≡ climb (asked (now (index .entry))) (take count (now (csds .entry))) account ⌝ }
     ensures few { λ r. ⌜ r .count < sideLimit ⌝ }
     ensures same { λ r. ⌜ length (now (steps .exit)) ≡ stepNumbers ⌝ }
 {
-    let csds = side.csds;
     let mut at = account;
     let mut i: usize = 0;
     while i + 1 < SIDE {
-        if side.count <= i + 1 {
+        if count <= i + 1 {
             return Reached {
                 paired: true,
                 count: i,
@@ -184,6 +183,26 @@ fn add_turned(steps: &mut [u16], count: usize, side: &[u16; STEP_NUMBERS], left:
     n
 }
 
+// The one step of a chain inside one CSD, put at the front of the list.
+pub(crate) fn one_step(steps: &mut [u16], csd: u8, debited: u16, credited: u16) -> Found
+    requires { ⌜ length (now steps) ≡ stepNumbers ⌝ }
+    ensures { λ r. ⌜ FoundIn (now (steps .entry)) (now (steps .exit)) (chained (step csd debited credited ∷ [])) r ⌝ }
+{
+    put_step(
+        steps,
+        0,
+        Step {
+            csd,
+            debited,
+            credited,
+        },
+    );
+    Found {
+        refusal: 0,
+        count: 1,
+    }
+}
+
 // The steps along a route from the delivering account to the receiving one, or the refusal: the route's, or 18.
 pub(crate) fn steps_along(
     index: &[u16; INDEX],
@@ -206,8 +225,12 @@ pub(crate) fn steps_along(
     }
     let mut upwards = [0u16; STEP_NUMBERS];
     let mut downwards = [0u16; STEP_NUMBERS];
-    let up = climb_side(index, route.delivering, delivering, &mut upwards);
-    let down = climb_side(index, route.receiving, receiving, &mut downwards);
+    let up_csds = route.delivering.csds;
+    let down_csds = route.receiving.csds;
+    let up_count = route.delivering.count;
+    let down_count = route.receiving.count;
+    let up = climb_side(index, &up_csds, up_count, delivering, &mut upwards);
+    let down = climb_side(index, &down_csds, down_count, receiving, &mut downwards);
     let paired = up.paired & down.paired;
     if !paired {
         return Found {

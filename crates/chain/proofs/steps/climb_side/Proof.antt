@@ -17,18 +17,18 @@ use Rattle.chain.proofs.steps.climb_side.Statement.{statement}
 use Rattle.chain.proofs.steps.climb_side.Tie as tie
 
 abbrev Inv-loop : tie.InvT-loop
-Inv-loop index side account steps₀ csds at₀ i₀ steps at i =
+Inv-loop index csds count account steps₀ at₀ i₀ steps at i =
     (i < sideLimit)
     × (length steps ≡ stepNumbers)
-    × Climbs (asked index) (side .csds) (side .count) account i (stepsIn steps i) at
+    × Climbs (asked index) csds count account i (stepsIn steps i) at
 
 abbrev μ-loop : tie.MeasureT-loop
-μ-loop index side account steps₀ csds at₀ i₀ steps at i = sideLimit - i
+μ-loop index csds count account steps₀ at₀ i₀ steps at i = sideLimit - i
 
 loop-holds : tie.Need-loop-holds Inv-loop μ-loop
 loop-holds c =
     let a = c .before .args in
-    (search needs, c .before .pre, climb-starts (asked (a .index .now)) (a .side .csds) (a .side .count) (a .account) (stepsIn (a .steps .now) 0) (steps-none (a .steps .now)))
+    (search needs, c .before .pre .1, climb-starts (asked (a .index .now)) (a .csds .now) (a .count) (a .account) (stepsIn (a .steps .now) 0) (steps-none (a .steps .now)))
 
 add-loop : tie.Need-add-loop Inv-loop μ-loop
 add-loop c = search needs
@@ -38,19 +38,19 @@ add-if1 c = search needs
 
 returns : tie.Need-returns Inv-loop μ-loop
 returns c =
-    let l = c .before .before .before .loop in
-    let a = c .before .before .before .before .before .args in
+    let l = c .before .before .loop in
+    let a = c .before .before .before .before .args in
     let steps = stepsIn (l .steps) (l .i) in
-    (climb-ends (asked (a .index .now)) (a .side .csds) (a .side .count) (a .account) (l .i) steps (l .at) (l .inv .2) (omega arith), (l .inv .0, l .inv .1))
+    (climb-ends (asked (a .index .now)) (a .csds .now) (a .count) (a .account) (l .i) steps (l .at) (l .inv .2) (omega arith), (l .inv .0, l .inv .1))
 
-array-read-csd : tie.Need-array-read-csd Inv-loop μ-loop
-array-read-csd c = search needs
+shared-slice-read-csd : tie.Need-shared-slice-read-csd Inv-loop μ-loop
+shared-slice-read-csd c = search needs
 
 add-pair-of : tie.Need-add-pair-of Inv-loop μ-loop
 add-pair-of c = search needs
 
-array-read-pair-of : tie.Need-array-read-pair-of Inv-loop μ-loop
-array-read-pair-of c = search needs
+shared-slice-read-pair-of : tie.Need-shared-slice-read-pair-of Inv-loop μ-loop
+shared-slice-read-pair-of c = search needs
 
 pair-of-requires : tie.Need-pair-of-requires Inv-loop μ-loop
 pair-of-requires c κs = search needs
@@ -63,12 +63,12 @@ enum-told c = search needs
 
 returns-2 : tie.Need-returns-2 Inv-loop μ-loop
 returns-2 c =
-    let l = c .before .before .before .before .before .before .loop in
-    let a = c .before .before .before .before .before .before .before .before .args in
+    let l = c .before .before .before .before .before .before .before .loop in
+    let a = c .before .before .before .before .before .before .before .before .before .args in
     let steps = stepsIn (l .steps) (l .i) in
-    let named : length (a .side .csds) ≡ sideLimit = search needs in
+    let named : length (a .csds .now) ≡ sideLimit = search needs in
     let missing = pair-missing _ (sym (c .before .before .pair-of .ensures) ∙ c .enum-told .given .1) in
-    (climb-fails (asked (a .index .now)) (a .side .csds) (a .side .count) (a .account) (l .i) steps (l .at) (l .inv .2) (omega arith) (omega arith) missing, (l .inv .0, l .inv .1))
+    (climb-fails (asked (a .index .now)) (a .csds .now) (a .count) (a .account) (l .i) steps (l .at) (l .inv .2) (omega arith) (omega arith) missing, (l .inv .0, l .inv .1))
 
 put-step-requires : tie.Need-put-step-requires Inv-loop μ-loop
 put-step-requires c κs = search needs
@@ -81,16 +81,16 @@ loop-less c = search needs
 
 loop-again : tie.Need-loop-again Inv-loop μ-loop
 loop-again c =
-    let l = c .before .before .before .before .before .before .before .before .before .loop in
-    let a = c .before .before .before .before .before .before .before .before .before .before .before .args in
+    let l = c .before .before .before .before .before .before .before .before .before .before .loop in
+    let a = c .before .before .before .before .before .before .before .before .before .before .before .before .args in
     let steps = stepsIn (l .steps) (l .i) in
-    let named : length (a .side .csds) ≡ sideLimit = search needs in
-    let byte : Fits w8 (getD (a .side .csds) (l .i) 0) = search needs in
+    let named : length (a .csds .now) ≡ sideLimit = search needs in
+    let byte : Fits w8 (getD (a .csds .now) (l .i) 0) = c .before .before .before .before .before .before .before .shared-slice-known2 .given (l .i) in
     let row = pair-row _ _ (sym (c .before .before .before .before .before .pair-of .ensures) ∙ c .before .before .before .pair .given .1) in
     let put = c .put-step .ensures in (
       omega arith,
       ap length put ∙ (length-step (l .steps) (l .i) _ ∙ l .inv .1),
-      climb-goes-on (asked (a .index .now)) (a .side .csds) (a .side .count) (a .account) (l .i) steps (l .at) (l .inv .2) (omega arith) (omega arith) _ _ row
+      climb-goes-on (asked (a .index .now)) (a .csds .now) (a .count) (a .account) (l .i) steps (l .at) (l .inv .2) (omega arith) (omega arith) _ _ row
           (ap (λ (k : List ℕ). stepsIn k (l .i + 1)) put ∙ one-more (l .steps) (l .i) _ (l .inv .1) (omega arith) (omega arith)),
     )
 
@@ -99,8 +99,8 @@ returns-3 c =
     let l = c .before .loop in
     let a = c .before .before .before .args in
     let steps = stepsIn (l .steps) (l .i) in
-    let named : length (a .side .csds) ≡ sideLimit = search needs in
-    (climb-ends (asked (a .index .now)) (a .side .csds) (a .side .count) (a .account) (l .i) steps (l .at) (l .inv .2) (omega arith), (l .inv .0, l .inv .1))
+    let named : length (a .csds .now) ≡ sideLimit = search needs in
+    (climb-ends (asked (a .index .now)) (a .csds .now) (a .count) (a .account) (l .i) steps (l .at) (l .inv .2) (omega arith), (l .inv .0, l .inv .1))
 
 pub climb-side-spec : {M : Type 1} → statement M
 climb-side-spec =
@@ -112,9 +112,9 @@ climb-side-spec =
     add-loop
     add-if1
     returns
-    array-read-csd
+    shared-slice-read-csd
     add-pair-of
-    array-read-pair-of
+    shared-slice-read-pair-of
     pair-of-requires
     enum-known-pair
     enum-told
