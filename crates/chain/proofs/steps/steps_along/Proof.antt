@@ -49,8 +49,11 @@ put-side-requires c κs = search needs
 add-top-requires : tie.Need-add-top-requires
 add-top-requires c κs = search needs
 
+-- the bound on the delivering side's steps stands too deep for the search to find
 add-turned-requires : tie.Need-add-turned-requires
-add-turned-requires c κs = search needs
+add-turned-requires c κs =
+    let few = c .before .before .before .before .before .before .before .before .before .before .before .before .before .before .before .before .before .before .before .climb-side .ensures .1 in
+    search needs
 
 same-length : tie.Need-same-length
 same-length c = search needs
