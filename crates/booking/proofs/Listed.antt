@@ -3,20 +3,22 @@ use mathlib.Core.Path.{_≡_, refl}
 use mathlib.Core.Logic.{⊎-elim}
 use mathlib.Core.Bool.{false}
 use mathlib.Core.List.{List, [], _∷_, _++_}
-use Prim.Native.Nat.{ℕ, zero, suc, _+_, _*_, _≤_, _<_}
+use Prim.Native.Nat.{ℕ, zero, suc, _+_, _*_, _%_, _≤_, _<_}
 use native.Mathlib.Omega.{arith}
 use native.Mathlib.Nat.{eq-or-lt-of-le, le-of-suc-le-suc}
-use lib.ListN.{length}
-use lib.IntN.{ℤ}
+use lib.ListN.{length, getD, set}
+use lib.IntN.{ℤ, pos, negℤ, _+ℤ_}
+use mir.Syntax.{w64}
+use mir.Val.{SFits}
 use Rattle.rules.specs.declared.Step.{Step}
 use Rattle.rules.specs.Tests.{any}
-use Rattle.rules.specs.Chain.{stepLimit}
-use Rattle.rules.specs.Booking.{limit, moved, booked, stepBeyond, unitsBeyond}
+use Rattle.rules.specs.Chain.{step}
+use Rattle.rules.specs.Booking.{limit, position, place, addUnits, moved, booked, stepBeyond, unitsBeyond}
 use Rattle.rules.proofs.Basics.{or-none}
 use Rattle.chain.specs.StepList.{stepAt, stepsIn}
-use Rattle.chain.proofs.StepList.{steps-counted}
+use Rattle.chain.proofs.StepList.{step-here, steps-counted}
 use Rattle.holdings.proofs.Listed.{steps-more, any-more}
-use Rattle.booking.specs.Room.{Room}
+use Rattle.booking.specs.Room.{Room, Bookable}
 use Rattle.booking.proofs.Booked.{Touch, Touches, touched, room, touches-moved}
 
 -- what 22 lets pass it lets pass in part
@@ -44,14 +46,37 @@ pub booked-none : (b : List ℕ) (s q : ℕ) (p : List ℤ) → p ≡ booked (st
 unfolding booked stepsIn
 booked-none b s q p = refl
 
-module _ (b : List ℕ) (i s q : ℕ) (p : List ℤ) where
-  pub booked-more : moved (stepAt b i) s q (booked (stepsIn b i) s q p) ≡ booked (stepsIn b (i + 1)) s q p
-  booked-more = rw (steps-more b i, booked-last (stepsIn b i) (stepAt b i) s q p)
+-- ---- the first n steps can be booked, those before the step i are: the step i has room, and is booked next
+module _ (b : List ℕ) (i s q : ℕ) (p : List ℤ) (n : ℕ) (can : Bookable p s q b n) (here : i < n) (p′ : List ℤ) (is : p′ ≡ booked (stepsIn b i) s q p) where
+  -- the step i
+  abbrev next : Step
+  next = step (getD b (3 * i) 0 % 256) (getD b (3 * i + 1) 0) (getD b (3 * i + 2) 0)
 
-  -- the step behind those booked has room
-  pub next-room : (n : ℕ) → q ≤ limit → n ≤ stepLimit → i < n → unitsBeyond p s q (stepsIn b n) ≡ false → Room (booked (stepsIn b i) s q p) s q (stepAt b i)
-  next-room n small few here e =
-      let passed = rw (steps-more b i) at (beyond-part b p s q n (i + 1) (omega arith) e) in
-      let touches = touched (stepsIn b i ++ (stepAt b i ∷ [])) s q p small passed in
-      room (2 + 2 * length (stepsIn b i)) s q (booked (stepsIn b i) s q p) small (stepAt b i) (omega (arith, steps-counted b i))
-      (touch-last (stepsIn b i) (stepAt b i) 2 s q p small touches)
+  next-is : stepAt b i ≡ next
+  next-is = step-here b i (can .size) (omega arith)
+
+  pub next-room : Room p′ s q next
+  next-room =
+      let passed = rw (steps-more b i) at (beyond-part b p s q n (i + 1) (omega arith) (can .passes)) in
+      let touches = touched (stepsIn b i ++ (stepAt b i ∷ [])) s q p (can .small) passed in
+      rw (is, ← next-is)
+      (room (2 + 2 * length (stepsIn b i)) s q (booked (stepsIn b i) s q p) (can .small) (stepAt b i) (omega (arith, steps-counted b i))
+      (touch-last (stepsIn b i) (stepAt b i) 2 s q p (can .small) touches))
+
+  pub next-booked : moved next s q p′ ≡ booked (stepsIn b (i + 1)) s q p
+  next-booked = rw (is, ← next-is, steps-more b i, booked-last (stepsIn b i) (stepAt b i) s q p)
+
+  -- the same by the places of its two positions
+  module _ (from to : ℕ) (from-is : from ≡ place s (getD b (3 * i + 1) 0)) (to-is : to ≡ place s (getD b (3 * i + 2) 0)) where
+    pub debit-room : SFits w64 (getD p′ from (pos 0) +ℤ negℤ (pos q))
+    unfolding position
+    debit-room = rw from-is (next-room .debit)
+
+    module _ (between : List ℤ) (gave : between ≡ set p′ from (getD p′ from (pos 0) +ℤ negℤ (pos q))) where
+      pub credit-room : SFits w64 (getD between to (pos 0) +ℤ pos q)
+      unfolding position addUnits
+      credit-room = rw (gave, from-is, to-is) (next-room .credit)
+
+      pub both-booked : set between to (getD between to (pos 0) +ℤ pos q) ≡ booked (stepsIn b (i + 1)) s q p
+      unfolding position addUnits moved
+      both-booked = rw (gave, from-is, to-is) next-booked

@@ -1,6 +1,8 @@
 // Settlement of two halves: the steps of their chain are booked, and "receiving cash pays delivering cash".
 use crate::cash::pay;
 use crate::first_refusal::book_refusal;
+use crate::numbers::add_within;
+use crate::numbers::signed;
 use crate::positions::move_units;
 use chain::derivation::chain_of;
 use chain::step_list::STEP_NUMBERS;
@@ -9,26 +11,25 @@ use holdings::cash::cash_short;
 use holdings::cash::payment_beyond;
 use holdings::judging::judge_steps;
 use holdings::judging::steps_fit;
+use holdings::positions::place;
 use index::places::INDEX;
 use rules::Answer;
 use rules::Half;
 use rules::Step;
 ghost use mathlib.Core.Path.{_≡_};
-ghost use mathlib.Core.Bool.{false};
-ghost use Prim.Native.Nat.{_≤_};
-ghost use lib.ListN.{length};
+ghost use mathlib.Core.Bool.{true};
 ghost use Rattle.rules.specs.Tests.{firstOf};
-ghost use Rattle.rules.specs.Chain.{stepLimit};
-ghost use Rattle.rules.specs.Booking.{limit, booked, unitsBeyond};
+ghost use Rattle.rules.specs.Booking.{booked};
 ghost use Rattle.rules.specs.Calls.{bookConditions};
 ghost use Rattle.index.specs.Asked.{asked, askedOn};
-ghost use Rattle.chain.specs.StepList.{stepNumbers, stepsIn};
+ghost use Rattle.chain.specs.StepList.{stepsIn};
+ghost use Rattle.holdings.specs.Fitting.{stepsFit, Standing};
+ghost use Rattle.booking.specs.Room.{Bookable};
 ghost use Rattle.booking.specs.Settling.{Settles};
 
 // The first `count` steps of the list, once 22 lets them pass.
 fn book_steps(positions: &mut [i64], security: u8, quantity: u64, steps: &[u16], count: usize)
-    requires { ⌜ (quantity ≤ limit) × (length (now steps) ≡ stepNumbers) × (count ≤ stepLimit)
-        × (unitsBeyond (now positions) security quantity (stepsIn (now steps) count) ≡ false) ⌝ }
+    requires { ⌜ Bookable (now positions) security quantity (now steps) count ⌝ }
     ensures { λ _. ⌜ now (positions .exit) ≡ booked (stepsIn (now (steps .entry)) count) security quantity (now (positions .entry)) ⌝ }
 {
     let mut i: usize = 0;
@@ -44,7 +45,45 @@ fn book_steps(positions: &mut [i64], security: u8, quantity: u64, steps: &[u16],
     }
 }
 
-// 20 over all steps, 21, then 22 over all changed numbers, judged on the lists as they are lent.
+// The same of steps whose positions stand in the list: no place is tested.
+fn book_standing(positions: &mut [i64], security: u8, quantity: u64, steps: &[u16], count: usize)
+    requires { ⌜ Bookable (now positions) security quantity (now steps) count × Standing (now positions) security (now steps) count ⌝ }
+    ensures { λ _. ⌜ now (positions .exit) ≡ booked (stepsIn (now (steps .entry)) count) security quantity (now (positions .entry)) ⌝ }
+{
+    let down = signed(quantity, false);
+    let up = signed(quantity, true);
+    let mut done: usize = 0;
+    while done < count {
+        let at = 3 * done;
+        let from = place(security, steps[at + 1]);
+        let to = place(security, steps[at + 2]);
+        add_within(positions, from, down);
+        add_within(positions, to, up);
+        done += 1;
+    }
+}
+
+// The same, by whether the steps were found to fit.
+fn book_chain(
+    positions: &mut [i64],
+    security: u8,
+    quantity: u64,
+    steps: &[u16],
+    count: usize,
+    fits: bool,
+)
+    requires { ⌜ Bookable (now positions) security quantity (now steps) count
+        × (fits ≡ true → Standing (now positions) security (now steps) count) ⌝ }
+    ensures { λ _. ⌜ now (positions .exit) ≡ booked (stepsIn (now (steps .entry)) count) security quantity (now (positions .entry)) ⌝ }
+{
+    if fits {
+        book_standing(positions, security, quantity, steps, count);
+    } else {
+        book_steps(positions, security, quantity, steps, count);
+    }
+}
+
+// 20 over all steps, 21, then 22 over all changed numbers, judged on the lists as they are lent. `fits` is whether the steps fit.
 fn judge_booking(
     index: &[u16; INDEX],
     positions: &[i64],
@@ -53,16 +92,16 @@ fn judge_booking(
     receiving: Half,
     steps: &[u16],
     count: usize,
+    fits: bool,
 ) -> u8
+    requires { ⌜ fits ≡ stepsFit (asked (now index) .kind) (now positions) (delivering .security) (delivering .quantity) (now steps) count ⌝ }
     ensures { λ r. ⌜ r ≡ firstOf (bookConditions (asked (now (index .entry))) (now (positions .entry)) (now (cash .entry)) delivering receiving
         (stepsIn (now (steps .entry)) count)) ⌝ }
 {
     let amount = delivering.amount;
     let payer = receiving.account;
     let payee = delivering.account;
-    let security = delivering.security;
-    let quantity = delivering.quantity;
-    if steps_fit(index, positions, security, quantity, steps, count) {
+    if fits {
         if cash_short(cash, payer, amount) {
             return 21;
         }
@@ -71,6 +110,8 @@ fn judge_booking(
         }
         return 0;
     }
+    let security = delivering.security;
+    let quantity = delivering.quantity;
     let units = judge_steps(index, positions, security, quantity, steps, count);
     let unpaid = cash_short(cash, payer, amount);
     let payment = payment_beyond(cash, payer, payee, amount);
@@ -100,31 +141,30 @@ pub fn settle(
     if halves != 0 {
         return Answer::Refused(halves);
     }
-    let found = chain_of(
-        index,
-        delivering.security,
-        delivering.account,
-        receiving.account,
-        steps,
-        day,
-    );
+    let security = delivering.security;
+    let payee = delivering.account;
+    let payer = receiving.account;
+    let found = chain_of(index, security, payee, payer, steps, day);
     if found.refusal != 0 {
         return Answer::Refused(found.refusal);
     }
     let count = found.count;
-    let booking = judge_booking(index, positions, cash, delivering, receiving, steps, count);
+    let quantity = delivering.quantity;
+    let fits = steps_fit(index, positions, security, quantity, steps, count);
+    let booking = judge_booking(
+        index,
+        positions,
+        cash,
+        delivering,
+        receiving,
+        steps,
+        count,
+        fits,
+    );
     if booking != 0 {
         return Answer::Refused(booking);
     }
-    let payer = receiving.account;
-    let payee = delivering.account;
-    book_steps(
-        positions,
-        delivering.security,
-        delivering.quantity,
-        steps,
-        count,
-    );
+    book_chain(positions, security, quantity, steps, count, fits);
     pay(cash, payer, payee, delivering.amount);
     Answer::Booked(count)
 }

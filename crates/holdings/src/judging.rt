@@ -1,4 +1,5 @@
 // 20 and 22 of a step: "A debited participant or omnibus position must not fall below 0", and "Every changed number must end within ±10^15".
+use crate::positions::place;
 use crate::positions::position_of;
 use amounts::is_below;
 use amounts::less_beyond;
@@ -87,7 +88,7 @@ pub fn judge_steps(
     Judged { short, beyond }
 }
 
-// Whether the account can give so many units: they are there where it must not fall below 0, and it ends within ±10^15.
+// Whether the account can give so many units: its position stands in the list, they are there where it must not fall below 0, and it ends within ±10^15.
 fn debit_fits(
     index: &[u16; INDEX],
     positions: &[i64],
@@ -98,28 +99,36 @@ fn debit_fits(
     requires { ⌜ quantity ≤ limit ⌝ }
     ensures { λ r. ⌜ r ≡ debitFits (asked (now (index .entry)) .kind) (now (positions .entry)) security quantity account ⌝ }
 {
-    let held = position_of(positions, security, account);
+    let from = place(security, account);
+    if positions.len() <= from {
+        return false;
+    }
+    let held = positions[from];
     let units = quantity as i64;
-    if held.0 < units {
+    if held < units {
         if is_floored(index, account) {
             return false;
         }
-        return units - MOST <= held.0;
+        return units - MOST <= held;
     }
-    held.0 <= MOST + units
+    held <= MOST + units
 }
 
-// Whether the account can take so many units: it ends within ±10^15.
+// Whether the account can take so many units: its position stands in the list, and it ends within ±10^15.
 fn credit_fits(positions: &[i64], security: u8, quantity: u64, account: u16) -> bool
     requires { ⌜ quantity ≤ limit ⌝ }
     ensures { λ r. ⌜ r ≡ creditFits (now (positions .entry)) security quantity account ⌝ }
 {
-    let held = position_of(positions, security, account);
-    let units = quantity as i64;
-    if held.0 < -MOST - units {
+    let to = place(security, account);
+    if positions.len() <= to {
         return false;
     }
-    held.0 <= MOST - units
+    let held = positions[to];
+    let units = quantity as i64;
+    if held < -MOST - units {
+        return false;
+    }
+    held <= MOST - units
 }
 
 // Whether the first `count` steps of the list fit: out at the first that does not.
@@ -148,7 +157,8 @@ fn listed_fit(
     true
 }
 
-// Whether a quantity of 10^15 at most can be booked by the first `count` steps of a list of steps: none is short, and none ends beyond ±10^15.
+// Whether a quantity of 10^15 at most can be booked by the first `count` steps of a list of steps: their positions stand in the list, none is short, and none
+// ends beyond ±10^15.
 pub fn steps_fit(
     index: &[u16; INDEX],
     positions: &[i64],

@@ -6,8 +6,7 @@ use native.Mathlib.Omega.{arith}
 use lib.ListN.{length}
 use Rattle.rules.specs.Booking.{booked}
 use Rattle.chain.specs.StepList.{stepsIn}
-use Rattle.chain.proofs.StepList.{step-here}
-use Rattle.booking.proofs.Listed.{booked-none, booked-more, next-room}
+use Rattle.booking.proofs.Listed.{booked-none, next-room, next-booked}
 use Rattle.booking.proofs.settling.book_steps.Statement.{statement}
 use Rattle.booking.proofs.settling.book_steps.Tie as tie
 
@@ -58,9 +57,7 @@ move-units-requires c κs =
     let l = c .before .before .before .before .before in
     let s = l .before .before in
     let a = s .args in
-    let free = next-room (a .steps .now) (l .loop .i) (a .security) (a .quantity) (a .positions .now) (a .count)
-    (s .pre .0) (s .pre .2) (omega arith) (s .pre .3) in
-    (s .pre .0, rw (l .loop .inv .2) (rw (step-here (a .steps .now) (l .loop .i) (s .pre .1) (omega arith)) at free))
+    (s .pre .small, next-room (a .steps .now) (l .loop .i) (a .security) (a .quantity) (a .positions .now) (a .count) (s .pre) (omega arith) (l .loop .positions) (l .loop .inv .2))
 
 add-i : tie.Need-add-i Inv-loop μ-loop
 add-i c = search needs
@@ -74,11 +71,8 @@ loop-again c =
     let l = moved .before .before .before .before .before .before in
     let s = l .before .before in
     let a = s .args in
-    let more = booked-more (a .steps .now) (l .loop .i) (a .security) (a .quantity) (a .positions .now) in (
-      omega arith,
-      moved .move-units .kept .0 ∙ l .loop .inv .1,
-      rw (l .loop .inv .2) at (moved .move-units .ensures) ∙ rw (step-here (a .steps .now) (l .loop .i) (s .pre .1) (omega arith)) at more,
-    )
+    let more = next-booked (a .steps .now) (l .loop .i) (a .security) (a .quantity) (a .positions .now) (a .count) (s .pre) (omega arith) (l .loop .positions) (l .loop .inv .2) in
+    (omega arith, moved .move-units .kept .0 ∙ l .loop .inv .1, moved .move-units .ensures ∙ more)
 
 same-length : tie.Need-same-length Inv-loop μ-loop
 same-length c = c .before .loop .inv .1

@@ -2,23 +2,26 @@
 use borrow.Author.Needs.{needs}
 use mathlib.Core.Path.{sym, _∙_}
 use Rattle.index.specs.Asked.{asked}
-use Rattle.holdings.proofs.Fitting.{fit-open}
+use Rattle.holdings.proofs.Fitting.{AllFit, fit-open}
 use Rattle.booking.proofs.settling.judge_booking.Statement.{statement}
 use Rattle.booking.proofs.settling.judge_booking.Tie as tie
-
-steps-fit-requires : tie.Need-steps-fit-requires
-steps-fit-requires c κs = search needs
 
 cash-short-requires : tie.Need-cash-short-requires
 cash-short-requires c κs = search needs
 
+-- what was handed says of the steps
+fitting : (c : tie.Then1) → let a = c .before .before .args in
+    AllFit (asked (a .index .now) .kind) (a .positions .now) (a .delivering .security) (a .delivering .quantity) (a .steps .now) (a .count)
+fitting c =
+    let s = c .before .before in
+    let a = s .args in
+    fit-open (asked (a .index .now) .kind) (a .positions .now) (a .delivering .security) (a .delivering .quantity) (a .steps .now) (a .count)
+    (sym (s .pre) ∙ c .if1 .taken)
+
 returns : tie.Need-returns
 returns c =
-    let fits = c .before .before in
-    let a = fits .before .before .before .args in
-    let none = fit-open (asked (a .index .now) .kind) (a .positions .now) (a .delivering .security) (a .delivering .quantity) (a .steps .now) (a .count)
-    (sym (fits .before .steps-fit .ensures) ∙ fits .if1 .taken) in
-    rw (none .0, none .1, sym (c .before .cash-short .ensures) ∙ c .if2 .taken)
+    let all = fitting (c .before .before) in
+    rw (all .short, all .beyond, sym (c .before .cash-short .ensures) ∙ c .if2 .taken)
 
 payment-beyond-requires : tie.Need-payment-beyond-requires
 payment-beyond-requires c κs = search needs
@@ -26,20 +29,14 @@ payment-beyond-requires c κs = search needs
 returns-2 : tie.Need-returns-2
 returns-2 c =
     let paid = c .before .before in
-    let fits = paid .before .before in
-    let a = fits .before .before .before .args in
-    let none = fit-open (asked (a .index .now) .kind) (a .positions .now) (a .delivering .security) (a .delivering .quantity) (a .steps .now) (a .count)
-    (sym (fits .before .steps-fit .ensures) ∙ fits .if1 .taken) in
-    rw (none .0, none .1, sym (paid .before .cash-short .ensures) ∙ paid .if2 .left, sym (c .before .payment-beyond .ensures) ∙ c .if3 .taken)
+    let all = fitting (paid .before .before) in
+    rw (all .short, all .beyond, sym (paid .before .cash-short .ensures) ∙ paid .if2 .left, sym (c .before .payment-beyond .ensures) ∙ c .if3 .taken)
 
 returns-3 : tie.Need-returns-3
 returns-3 c =
     let paid = c .before .before in
-    let fits = paid .before .before in
-    let a = fits .before .before .before .args in
-    let none = fit-open (asked (a .index .now) .kind) (a .positions .now) (a .delivering .security) (a .delivering .quantity) (a .steps .now) (a .count)
-    (sym (fits .before .steps-fit .ensures) ∙ fits .if1 .taken) in
-    rw (none .0, none .1, sym (paid .before .cash-short .ensures) ∙ paid .if2 .left, sym (c .before .payment-beyond .ensures) ∙ c .if3 .left)
+    let all = fitting (paid .before .before) in
+    rw (all .short, all .beyond, sym (paid .before .cash-short .ensures) ∙ paid .if2 .left, sym (c .before .payment-beyond .ensures) ∙ c .if3 .left)
 
 judge-steps-requires : tie.Need-judge-steps-requires
 judge-steps-requires c κs = search needs
@@ -64,7 +61,6 @@ pub judge-booking-spec : {M : Type 1} → statement M
 judge-booking-spec =
     tie.close
     (tie.spec
-    steps-fit-requires
     cash-short-requires
     returns
     payment-beyond-requires

@@ -1,10 +1,11 @@
 -- Each number in turn decides as the definition has it; where none does, the steps and the payment judged are those booked.
 use borrow.Author.Needs.{needs}
 use mathlib.Core.Path.{sym, _∙_}
-use Rattle.index.specs.Asked.{askedOn}
+use Rattle.index.specs.Asked.{asked, askedOn}
 use Rattle.chain.specs.StepList.{stepsIn}
 use Rattle.halves.proofs.Days.{halves-on}
 use Rattle.halves.proofs.Ranges.{halves-ranged}
+use Rattle.holdings.proofs.Fitting.{fit-open}
 use Rattle.booking.proofs.Days.{book-on}
 use Rattle.booking.proofs.Settled.{by-length, by-halves, by-chain, by-booking, done, booking-open}
 use Rattle.booking.proofs.settling.settle.Statement.{statement}
@@ -40,6 +41,9 @@ returns-3 c =
     by-chain (askedOn (a .index .now) (a .day)) (a .positions .now) (a .cash .now) (a .delivering) (a .receiving) (a .unknown) (a .same) (a .steps .now) (halves .before .if1 .left)
     (sym (halves .halves-refusal .ensures ∙ halves-on (a .index .now) (a .day) (a .delivering) (a .receiving) (a .unknown) (a .same)) ∙ chain .before .before .if2 .left) (found .last .1 .1 .1 .1 .0) (found .result) (found .ensures) (c .if3 .taken)
 
+steps-fit-requires : tie.Need-steps-fit-requires
+steps-fit-requires c κs = search needs
+
 judge-booking-requires : tie.Need-judge-booking-requires
 judge-booking-requires c κs = search needs
 
@@ -55,7 +59,7 @@ same-length-4 c = search needs
 returns-4 : tie.Need-returns-4
 returns-4 c =
     let judged = c .before in
-    let clear = judged .before .before .before .before in
+    let clear = judged .before .before .before .before .before .before .before in
     let chain = clear .before .before .before .before in
     let found = chain .chain-of in
     let halves = chain .before .before .before in
@@ -64,25 +68,29 @@ returns-4 c =
     (sym (halves .halves-refusal .ensures ∙ halves-on (a .index .now) (a .day) (a .delivering) (a .receiving) (a .unknown) (a .same)) ∙ chain .before .before .if2 .left) (found .last .1 .1 .1 .1 .0) (found .result) (found .ensures) (clear .if3 .left)
     (judged .judge-booking .result) (judged .judge-booking .ensures ∙ book-on (a .index .now) (a .day) (a .positions .now) (a .cash .now) (a .delivering) (a .receiving) (stepsIn (found .last .1 .1 .1 .1 .0) (found .result .count))) (c .if4 .taken)
 
-book-steps-requires : tie.Need-book-steps-requires
-book-steps-requires c κs =
+book-chain-requires : tie.Need-book-chain-requires
+book-chain-requires c κs =
     let passed = c .before .before in
     let judged = passed .before in
-    let chain = judged .before .before .before .before .before .before .before .before in
+    let fitted = judged .before .before .before .before in
+    let chain = fitted .before .before .before .before .before .before .before in
     let found = chain .chain-of in
     let halves = chain .before .before .before in
     let a = halves .before .before .before .args in
     let k = askedOn (a .index .now) (a .day) in
     let ranged = halves-ranged k (a .delivering) (a .receiving) (a .unknown) (a .same) (sym (halves .halves-refusal .ensures ∙ halves-on (a .index .now) (a .day) (a .delivering) (a .receiving) (a .unknown) (a .same)) ∙ chain .before .before .if2 .left) in
     let passes = booking-open k (a .positions .now) (a .cash .now) (a .delivering) (a .receiving) (a .unknown) (a .same) (stepsIn (found .last .1 .1 .1 .1 .0) (found .result .count))
-    (sym (judged .judge-booking .ensures ∙ book-on (a .index .now) (a .day) (a .positions .now) (a .cash .now) (a .delivering) (a .receiving) (stepsIn (found .last .1 .1 .1 .1 .0) (found .result .count))) ∙ passed .if4 .left) in
-    (ranged .0, found .kept .1 .1 .1 .1 .0 ∙ halves .before .if1 .left, found .ensures .few, passes .0)
+    (sym (judged .judge-booking .ensures ∙ book-on (a .index .now) (a .day) (a .positions .now) (a .cash .now) (a .delivering) (a .receiving) (stepsIn (found .last .1 .1 .1 .1 .0) (found .result .count))) ∙ passed .if4 .left) in (
+      record { small = ranged .0; size = found .kept .1 .1 .1 .1 .0 ∙ halves .before .if1 .left; few = found .ensures .few; passes = passes .0 },
+      λ t. fit-open (asked (a .index .now) .kind) (a .positions .now) (a .delivering .security) (a .delivering .quantity) (found .last .1 .1 .1 .1 .0) (found .result .count)
+          (sym (fitted .steps-fit .ensures) ∙ t) .standing,
+    )
 
 pay-requires : tie.Need-pay-requires
 pay-requires c κs =
     let passed = c .before .before .before .before .before in
     let judged = passed .before in
-    let chain = judged .before .before .before .before .before .before .before .before in
+    let chain = judged .before .before .before .before .before .before .before .before .before .before .before in
     let found = chain .chain-of in
     let halves = chain .before .before .before in
     let a = halves .before .before .before .args in
@@ -107,7 +115,7 @@ returns-5 c =
     let booked = paid .before .before .before in
     let passed = booked .before .before .before in
     let judged = passed .before in
-    let clear = judged .before .before .before .before in
+    let clear = judged .before .before .before .before .before .before .before in
     let chain = clear .before .before .before .before in
     let found = chain .chain-of in
     let halves = chain .before .before .before in
@@ -115,7 +123,7 @@ returns-5 c =
     done (askedOn (a .index .now) (a .day)) (a .positions .now) (a .cash .now) (a .delivering) (a .receiving) (a .unknown) (a .same) (a .steps .now) (halves .before .if1 .left)
     (sym (halves .halves-refusal .ensures ∙ halves-on (a .index .now) (a .day) (a .delivering) (a .receiving) (a .unknown) (a .same)) ∙ chain .before .before .if2 .left) (found .last .1 .1 .1 .1 .0) (found .result) (found .ensures) (clear .if3 .left)
     (judged .judge-booking .result) (judged .judge-booking .ensures ∙ book-on (a .index .now) (a .day) (a .positions .now) (a .cash .now) (a .delivering) (a .receiving) (stepsIn (found .last .1 .1 .1 .1 .0) (found .result .count))) (passed .if4 .left)
-    (booked .book-steps .last .0) (paid .pay .last .0) (booked .book-steps .ensures) (paid .pay .ensures)
+    (booked .book-chain .last .0) (paid .pay .last .0) (booked .book-chain .ensures) (paid .pay .ensures)
 
 pub settle-spec : {M : Type 1} → statement M
 settle-spec =
@@ -127,12 +135,13 @@ settle-spec =
     chain-of-requires
     same-length
     returns-3
+    steps-fit-requires
     judge-booking-requires
     same-length-2
     same-length-3
     same-length-4
     returns-4
-    book-steps-requires
+    book-chain-requires
     pay-requires
     same-length-5
     same-length-6
