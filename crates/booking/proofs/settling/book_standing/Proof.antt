@@ -1,7 +1,7 @@
 -- The positions are what the steps so far make of the positions at the start, and the next step has room.
 use borrow.Author.Needs.{needs, sfits-of}
 use mathlib.Core.Path.{_≡_, refl, _∙_}
-use Prim.Native.Nat.{_+_, _-_, _≤_}
+use Prim.Native.Nat.{_≤_, _-_}
 use native.Mathlib.Omega.{arith}
 use lib.ListN.{length}
 use mir.Facts.{toZ-ofZ}
@@ -113,9 +113,8 @@ loop-again c =
     let f : SFits w64 (down .result) = sfits-of (down .ok) in
     let g : SFits w64 (up .result) = sfits-of (up .ok) in
     let gave = simp (down .ensures) at (simp toZ-ofZ at (first .add-within .ensures)) in
-    let took = simp (up .ensures) at (simp toZ-ofZ at (second .add-within2 .ensures)) in
-    let more : l .loop .done + 1 ≤ a .count = omega (arith, inside .loop-test .taken) in (
-      more,
+    let took = simp (up .ensures) at (simp toZ-ofZ at (second .add-within2 .ensures)) in (
+      omega (arith, inside .loop-test .taken),
       second .add-within2 .kept .0 ∙ first .add-within .kept .0 ∙ l .loop .inv .1,
       took ∙ both-booked (a .steps .now) (l .loop .done) (a .security) (a .quantity) (a .positions .now) (a .count) (s .pre .0) (inside .loop-test .taken)
           (l .loop .positions) (l .loop .inv .2) (from .result) (to .result) (from .ensures) (to .ensures) (first .add-within .last .0) gave,

@@ -2,6 +2,7 @@
 use borrow.Author.Needs.{needs, sfits-of}
 use mathlib.Core.Path.{_≡_}
 use mathlib.Core.Bool.{true}
+use native.Mathlib.Omega.{arith}
 use lib.IntN.{pos}
 use lib.ListN.{getD}
 use mir.Facts.{toZ-ofZ}
@@ -20,7 +21,7 @@ place-requires c κs = search needs
 returns : tie.Need-returns
 returns c =
     let a = c .before .before .args in
-    rw (behind (a .positions .now) (a .security) (a .account) (c .before .place .result) (c .before .place .ensures) (c .if1 .taken))
+    rw (behind (a .positions .now) (a .security) (a .account) (c .before .place .result) (c .before .place .ensures) (omega arith))
 
 mul-held : tie.Need-mul-held
 mul-held c = search needs
