@@ -2,6 +2,7 @@
 use borrow.Author.Needs.{needs}
 use mathlib.Core.Path.{sym, ap}
 use mathlib.Core.List.{[], _∷_, _++_}
+use native.Mathlib.Omega.{arith}
 use Rattle.rules.specs.declared.Answer.{Answer}
 use Rattle.rules.specs.Stream.{answerText}
 use Rattle.text.proofs.Appends.{then, named}
@@ -24,7 +25,7 @@ put-four-requires : tie.Need-put-four-requires
 put-four-requires c κs = search needs
 
 put-last-requires : tie.Need-put-last-requires
-put-last-requires c κs = search needs
+put-last-requires c κs = (omega (arith, c .before .before .before .put-four .ensures .0 .same, c .before .before .before .before .before .before .before .put-three2 .ensures .0 .same), search needs)
 
 enum-known-answer-2 : tie.Need-enum-known-answer-2
 enum-known-answer-2 c = search needs
@@ -36,7 +37,7 @@ put-three-requires-4 : tie.Need-put-three-requires-4
 put-three-requires-4 c κs = search needs
 
 put-last-requires-2 : tie.Need-put-last-requires-2
-put-last-requires-2 c κs = search needs
+put-last-requires-2 c κs = (omega (arith, c .before .before .before .put-three4 .ensures .0 .same, c .before .before .before .before .before .before .before .put-three3 .ensures .0 .same), search needs)
 
 enum-known-answer-3 : tie.Need-enum-known-answer-3
 enum-known-answer-3 c = search needs
@@ -48,7 +49,7 @@ cast-put-last : tie.Need-cast-put-last
 cast-put-last c = search needs
 
 put-last-requires-3 : tie.Need-put-last-requires-3
-put-last-requires-3 c κs = search needs
+put-last-requires-3 c κs = (omega (arith, c .before .before .before .put-three5 .ensures .0 .same), search needs)
 
 same-length : tie.Need-same-length
 same-length c = search needs
