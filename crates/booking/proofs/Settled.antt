@@ -64,18 +64,18 @@ module _ (k : Lookups) (p c : List ℤ) (h g : Half) (u s : Bool) where
       abbrev later : List Condition
       later = chain_conditions (chain_between k h g) ++ book_conditions k p c h g (steps_of (chain_between k h g))
 
-      in_order : settling_conditions k p c h g u s ≡ both_conditions k h g u s ++ later
-      in_order = append_assoc (both_conditions k h g u s) (chain_conditions (chain_between k h g)) (book_conditions k p c h g (steps_of (chain_between k h g)))
+      in_order_lem : settling_conditions k p c h g u s ≡ both_conditions k h g u s ++ later
+      in_order_lem = append_assoc (both_conditions k h g u s) (chain_conditions (chain_between k h g)) (book_conditions k p c h g (steps_of (chain_between k h g)))
 
       pub by_halves : (n : ℕ) → n ≡ first_of (both_conditions k h g u s) → (n ≡ 0 → ⊥) → Leaves (Refused n) p c l
       by_halves n e some =
           let first = first_before (both_conditions k h g u s) later (λ z. some (e ∙ z)) in
-          refused_with n l (e ∙ sym (ap first_of in_order ∙ first)) some (derives_halves l k h g u s size n e some).list
+          refused_with n l (e ∙ sym (ap first_of in_order_lem ∙ first)) some (derives_halves l k h g u s size n e some).list
 
       -- the halves are in order, and their chain is looked for
       module _ (ok : first_of (both_conditions k h g u s) ≡ 0) (m : List ℕ) (r : Found) (found : Finds l m k h.security h.account g.account r) where
         then_later : first_of (settling_conditions k p c h g u s) ≡ first_of later
-        then_later = ap first_of in_order ∙ first_after (both_conditions k h g u s) later (quiet (both_conditions k h g u s) refl ok)
+        then_later = ap first_of in_order_lem ∙ first_after (both_conditions k h g u s) later (quiet (both_conditions k h g u s) refl ok)
 
         is_found : FoundIn l m (chain_between k h g) r
         is_found = rw (chain_fits l k h.security h.account g.account size) at found

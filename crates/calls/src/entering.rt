@@ -1,7 +1,7 @@
 // The five entries: the answer, and the directory after it.
 ghost use Rattle.std.specs.Prelude.{◌≡◌, ◌<◌};
 ghost use Rattle.rules.specs.declared.Answer.TheVariants.{Accepted, Refused};
-ghost use Rattle.rules.specs.Entries.{csd_row, security_row, account_row, pair_row_lem, link_row, add_row};
+ghost use Rattle.rules.specs.Entries.{csd_row, security_row, account_row, pair_row, link_row, add_row};
 ghost use Rattle.rules.specs.Outcomes.{entered_on};
 ghost use Rattle.rules.specs.Directory.{csd_limit, security_limit, account_limit, pair_limit, link_limit};
 
@@ -54,7 +54,7 @@ fn with_account(directory: Directory, row: Account) -> Directory
 
 fn with_pair(directory: Directory, row: Pair) -> Directory
     requires { directory.pairs.count < pair_limit }
-    ensures { result ≡ add_row (pair_row_lem row) directory }
+    ensures { result ≡ add_row (pair_row row) directory }
 {
     let mut pairs = directory.pairs;
     let n = pairs.count;
@@ -153,7 +153,7 @@ pub fn enter_account(directory: Directory, row: Account) -> Entered
 
 // 0E: a pair.
 pub fn enter_pair(directory: Directory, row: Pair) -> Entered
-    ensures { result ≡ entered_on directory (pair_row_lem row) }
+    ensures { result ≡ entered_on directory (pair_row row) }
 {
     let mut index: [u16; INDEX] = [0; INDEX];
     let mut names: [u8; NAMES] = [0; NAMES];

@@ -18,7 +18,7 @@ use Rattle.rules.proofs.Basics.{quiet, impossible}
 use Rattle.rules.proofs.Conditions.{first_before, first_after}
 use Rattle.chain.specs.StepList.{step_numbers, steps_in, noted}
 use Rattle.chain.specs.Derivation.{chain_into, chain_between, deriving_conditions, Finds, Derived, derived_by, derived, derived_into, DerivedIn, Derives}
-use Rattle.halves.specs.Halves.{in_order_lem, Handed}
+use Rattle.halves.specs.Halves.{in_order, Handed}
 use Rattle.halves.specs.declared.InOrder.{InOrder}
 use Rattle.chain.specs.declared.steps.Found.{Found}
 use Rattle.chain.proofs.StepList.{steps_none, steps_counted, noted_none}
@@ -45,13 +45,13 @@ module _ (l : List ℕ) (k : Lookups) (h g : Half) (u s : Bool) where
 
 -- ---- the derivation by its number
 module _ (k : Lookups) (h g : Half) (u s : Bool) where
-  by_number : (n : ℕ) → first_of (deriving_conditions k h g u s) ≡ n → derived k h g u s ≡ derived_by n (steps_of (chain_between k h g))
+  by_number_lem : (n : ℕ) → first_of (deriving_conditions k h g u s) ≡ n → derived k h g u s ≡ derived_by n (steps_of (chain_between k h g))
   unfolding derived
-  by_number n e = ap (λ (i : ℕ). derived_by i (steps_of (chain_between k h g))) e
+  by_number_lem n e = ap (λ (i : ℕ). derived_by i (steps_of (chain_between k h g))) e
 
   refused_with : (n : ℕ) → first_of (deriving_conditions k h g u s) ≡ n → (n ≡ 0 → ⊥) → derived k h g u s ≡ derived_by n []
   refused_with zero e z = absurd (z refl)
-  refused_with (suc n) e z = by_number (suc n) e
+  refused_with (suc n) e z = by_number_lem (suc n) e
 
   refused_by_halves : (n : ℕ) → n ≡ first_of (both_conditions k h g u s) → (n ≡ 0 → ⊥) → derived k h g u s ≡ derived_by n []
   refused_by_halves n e z = refused_with n (first_before (both_conditions k h g u s) (chain_conditions (chain_between k h g)) (λ w. z (e ∙ w)) ∙ sym e) z
@@ -64,7 +64,7 @@ module _ (k : Lookups) (h g : Half) (u s : Bool) where
     refused_by_chain n e z = refused_with n (then_chain ∙ rw e) z
 
     accepted : (xs : List Step) → chain_between k h g ≡ chained xs → derived k h g u s ≡ derived_by 0 xs
-    accepted xs e = by_number 0 (then_chain ∙ rw e) ∙ rw e
+    accepted xs e = by_number_lem 0 (then_chain ∙ rw e) ∙ rw e
 
 -- ---- what a function that derives promises, case by case
 derived_none : (l m : List ℕ) (x : Derived) (n : ℕ) → (n ≡ 0 → ⊥) → x ≡ derived_by n [] → m ≡ l → DerivedIn l m x (Refused n)
@@ -104,7 +104,7 @@ module _ (l : List ℕ) (k : Lookups) (h g : Half) (u s : Bool) where
 pub handed : (hs : Halves) → Handed hs (delivering hs) (receiving hs) (side_unknown hs) (same_side hs)
 handed hs = record { delivers = refl; receives = refl; unknown_side = refl; one_side = refl }
 
-pub handed_in_order : (hs : Halves) (x : InOrder) → x ≡ in_order_lem hs → Handed hs x.delivering x.receiving x.unknown x.same
+pub handed_in_order : (hs : Halves) (x : InOrder) → x ≡ in_order hs → Handed hs x.delivering x.receiving x.unknown x.same
 handed_in_order hs x e = rw e (handed hs)
 
 pub handed_derives : {hs : Halves} {h g : Half} {unknown same : Bool} → Handed hs h g unknown same → (l m : List ℕ) (k : Lookups) (r : Answer)

@@ -101,9 +101,9 @@ module _ (l : List ℕ) (n : ℕ) (x : Step) (size : length l ≡ step_numbers) 
       step_here (with_step l n x) n (length_step l n x ∙ size) room
       ∙ rw (first_number_lem, second_number, third_number, mod-eq_of_lt small)
 
-  pub one_more : x.csd < 256 → steps_in (with_step l n x) (n + 1) ≡ steps_in l n ++ (x ∷ [])
+  pub one_more_lem : x.csd < 256 → steps_in (with_step l n x) (n + 1) ≡ steps_in l n ++ (x ∷ [])
   unfolding steps_in
-  one_more small =
+  one_more_lem small =
       rw (add-one n)
       (ap (λ (p : List Step). p ++ (step_at (with_step l n x) n ∷ [])) (alike (with_step l n x) l n (length_step l n x) elsewhere)
       ∙ ap (λ (y : Step). steps_in l n ++ (y ∷ [])) (here small))
@@ -155,5 +155,5 @@ holds_more {l} {k} {xs} {n} size room x small h =
     let size' : length k ≡ step_numbers = ap length h.list ∙ length_noted xs l size (omega arith) in
     record {
       list = rw (h.list, count) (noted_more xs l size x (omega arith));
-      read = one_more k n x size' room small ∙ rw h.read;
+      read = one_more_lem k n x size' room small ∙ rw h.read;
     }

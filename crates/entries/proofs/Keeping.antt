@@ -4,9 +4,9 @@ use mathlib.Core.Path.{◌≡◌, refl}
 use Rattle.rules.specs.declared.Directory.{Directory}
 use Rattle.rules.specs.Tests.{first_of}
 use Rattle.rules.specs.Directory.{rows_of}
-use Rattle.rules.specs.Entries.{Row, csd_row, security_row, account_row, pair_row_lem, link_row, row_conditions, add_row}
+use Rattle.rules.specs.Entries.{Row, csd_row, security_row, account_row, pair_row, link_row, row_conditions, add_row}
 use Rattle.refusals.specs.Kept.{Kept, Keeps, refusal_in}
-use Rattle.entries.specs.Entered.{with_row_in, answered, kept_by_lem, entered_in, entered_by_lem, enter_row}
+use Rattle.entries.specs.Entered.{with_row_in, answered, kept_by, entered_in, entered_by, enter_row}
 use Rattle.refusals.proofs.Refusing.{refusal_is}
 use Rattle.entries.proofs.NewCsd.{csd_added}
 use Rattle.entries.proofs.NewSecurity.{security_added}
@@ -18,14 +18,14 @@ pub keeps_grown : (k : Kept) (d : Directory) (x : Row) → Keeps k d → first_o
 keeps_grown k d (csd_row x) h ok = csd_added k d x h ok
 keeps_grown k d (security_row x) h ok = security_added k d x h ok
 keeps_grown k d (account_row x) h ok = account_added k d x h ok
-keeps_grown k d (pair_row_lem x) h ok = pair_added k d x h ok
+keeps_grown k d (pair_row x) h ok = pair_added k d x h ok
 keeps_grown k d (link_row x) h ok = link_added k d x h ok
 
 pub keeps_entered : (k : Kept) (d : Directory) (x : Row) → Keeps k d → Keeps (entered_in x k) (enter_row x d).directory
 unfolding entered_in enter_row
 keeps_entered k d x h = rw (refusal_is k d x h) (go (first_of (row_conditions (rows_of d) x)) refl)
   where
-    go : (n : ℕ) → first_of (row_conditions (rows_of d) x) ≡ n → Keeps (kept_by_lem n x k) (entered_by_lem n x d).directory
+    go : (n : ℕ) → first_of (row_conditions (rows_of d) x) ≡ n → Keeps (kept_by n x k) (entered_by n x d).directory
     go zero e = keeps_grown k d x h e
     go (suc n) e = h
 
@@ -33,6 +33,6 @@ pub answer_is : (k : Kept) (d : Directory) (x : Row) → Keeps k d → answered 
 unfolding enter_row
 answer_is k d x h = rw (refusal_is k d x h) (go (first_of (row_conditions (rows_of d) x)))
   where
-    go : (n : ℕ) → answered n ≡ (entered_by_lem n x d).answer
+    go : (n : ℕ) → answered n ≡ (entered_by n x d).answer
     go zero = refl
     go (suc n) = refl

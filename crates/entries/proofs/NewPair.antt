@@ -13,7 +13,7 @@ use Rattle.rules.specs.declared.Directory.{Directory}
 use Rattle.rules.specs.Tests.{first_of, find}
 use Rattle.rules.specs.Directory.{Rows, on_day, rows_of, csd_limit, account_limit, pair_limit, no_account, external, uses, same_duo, uses_apart, serves, is_served, is_apart}
 use Rattle.rules.specs.Refusals.{SharesBoth}
-use Rattle.rules.specs.Entries.{pair_row_lem, row_conditions, add_row, pair_refusal}
+use Rattle.rules.specs.Entries.{pair_row, row_conditions, add_row, pair_refusal}
 use Rattle.rules.specs.Demands.{with_row}
 use Rattle.rules.proofs.Basics.{impossible, clash, untrue, unnot_false, and_both, and-true, and_second, or-false, bool_cases, eqb_is, eqb-true, eqb_not, eqb_false, find_some, find_none, any_true, any_none, none_any}
 use Rattle.rules.proofs.Accounts.{books_small, one_csd_lem}
@@ -49,7 +49,7 @@ both_stores x = duo_stores x x.omnibus (stores x)
 
 module _ (r : Rows) (x : Pair) (F : Facts (on_day 0 r)) (N : NewPair r r.pairs x) where
   abbrev r' : Rows
-  r' = with_row (pair_row_lem x) r
+  r' = with_row (pair_row x) r
 
   technical_small : x.technical < csd_limit
   technical_small = csd_small (on_day 0 r) F x.technical N.facts.technical_row
@@ -190,16 +190,16 @@ module _ (r : Rows) (x : Pair) (F : Facts (on_day 0 r)) (N : NewPair r r.pairs x
         );
       }
 
-pub pair_added : (k : Kept) (d : Directory) (x : Pair) → Keeps k d → first_of (row_conditions (rows_of d) (pair_row_lem x)) ≡ 0 → Keeps (with_row_in (pair_row_lem x) k) (add_row (pair_row_lem x) d)
+pub pair_added : (k : Kept) (d : Directory) (x : Pair) → Keeps k d → first_of (row_conditions (rows_of d) (pair_row x)) ≡ 0 → Keeps (with_row_in (pair_row x) k) (add_row (pair_row x) d)
 unfolding with_pair with_duo pair_refusal
 pair_added k d x h ok =
     let r : Rows = rows_of d in
     let F : Facts (on_day 0 r) = facts h.indexed in
     let N : NewPair r r.pairs x = accepted_pair r r.pairs x ok in
     let small : x.mirror < account_limit = mirror_small r x F N in
-    let names = same_names k.names r (with_row (pair_row_lem x) r) refl refl h.named in
+    let names = same_names k.names r (with_row (pair_row x) r) refl refl h.named in
     rw (eqb_false x.mirror no_account (omega arith), lt-ltb x.mirror 0xffff (omega arith))
     elim (bool_cases (eqb x.omnibus no_account)) [
-      | inl e ↦ rw e (grown k d h (pair_row_lem x) ok (alone r x F N (eqb_is x.omnibus no_account e)) k.names names)
-      | inr e ↦ rw e (grown k d h (pair_row_lem x) ok (both r x F N (eqb_not x.omnibus no_account e)) k.names names)
+      | inl e ↦ rw e (grown k d h (pair_row x) ok (alone r x F N (eqb_is x.omnibus no_account e)) k.names names)
+      | inr e ↦ rw e (grown k d h (pair_row x) ok (both r x F N (eqb_not x.omnibus no_account e)) k.names names)
     ]

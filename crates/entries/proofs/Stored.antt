@@ -8,7 +8,7 @@ use lib.ListN.{length, get_or}
 use borrow.Author.Tests.{lt-ltb}
 use Rattle.index.specs.Index.{Place, Inside, place_of, index_size, number_at, with_number}
 use Rattle.index.proofs.Standing.{same_place, number_at_lem, put_length, put_here, put_other}
-use Rattle.entries.specs.Entered.{one_more_lem, counted}
+use Rattle.entries.specs.Entered.{one_more, counted}
 
 -- A number and its place.
 pub record Store : Type 0 where
@@ -67,15 +67,15 @@ module _ (l : List ℕ) (size : length l ≡ index_size) {f g : Place → ℕ} {
   all : List Store
   all = record { at = count; number = g count } ∷ ss
 
-  one_more : one_more_lem (number_at (stored ss l) (place_of count)) ≡ g count
-  one_more =
+  one_more_lem : one_more (number_at (stored ss l) (place_of count)) ≡ g count
+  one_more_lem =
       let e : number_at (stored ss l) (place_of count) ≡ f count =
       number_at_lem (stored ss l) count c.inside ∙ (stored_kept g l ss c.right count c.inside c.apart ∙ at count c.inside) in
       rw (e, lt-ltb (f count) 0xffff c.few) (sym c.more)
 
   is_stored : counted count (stored ss l) ≡ stored all l
   unfolding counted all
-  is_stored = rw one_more
+  is_stored = rw one_more_lem
 
   pub change_length : length (counted count (stored ss l)) ≡ length l
   unfolding all

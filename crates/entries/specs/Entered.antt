@@ -11,7 +11,7 @@ use Rattle.rules.specs.declared.Answer.TheVariants.{Accepted, Refused}
 use Rattle.rules.specs.declared.Entered.{Entered}
 use Rattle.rules.specs.Tests.{first_of}
 use Rattle.rules.specs.Directory.{rows_of, csd_limit, account_limit, link_limit, no_account}
-use Rattle.rules.specs.Entries.{Row, csd_row, security_row, account_row, pair_row_lem, link_row, row_conditions, add_row}
+use Rattle.rules.specs.Entries.{Row, csd_row, security_row, account_row, pair_row, link_row, row_conditions, add_row}
 use Rattle.index.specs.Index.{Place, csd_count, security_count, account_count, pair_count, link_count, place_of, types, homes, kinds, mirrors, omnibuses, investors, technicals, served, newest, targets, links, next_number, first_number, last_number, kind_number, flag_number, technical_number, account_number, link_numbers, row_at, number_at, with_number}
 use Rattle.identifiers.specs.Names.{bic_size, isin_size, isins, with_bytes}
 use Rattle.refusals.specs.Kept.{Kept, csd_refusal_in, security_refusal_in, refusal_in}
@@ -19,12 +19,12 @@ use Rattle.refusals.specs.Kept.{Kept, csd_refusal_in, security_refusal_in, refus
 -- ---- what a row adds
 
 -- one more, below the largest 16-bit number
-abbrev pub one_more_lem : ℕ → ℕ
-one_more_lem n = cond (ltb n 0xffff) (n + 1) n
+abbrev pub one_more : ℕ → ℕ
+one_more n = cond (ltb n 0xffff) (n + 1) n
 
 -- one row more in the table whose count stands there
 unfoldable pub counted : Place → List ℕ → List ℕ
-counted p l = with_number l (place_of p) (one_more_lem (number_at l (place_of p)))
+counted p l = with_number l (place_of p) (one_more (number_at l (place_of p)))
 
 -- a CSD: its type
 unfoldable pub with_csd : Csd → List ℕ → List ℕ
@@ -52,12 +52,12 @@ with_account x l =
 unfoldable pub with_duo : Pair → ℕ → List ℕ → List ℕ
 with_duo x a l =
     cond (eqb a no_account) l
-    (with_number (with_number (with_number (with_number l (mirrors + a) (one_more_lem x.mirror)) (omnibuses + a) x.omnibus) (investors + a) x.investor) (technicals + a) x.technical)
+    (with_number (with_number (with_number (with_number l (mirrors + a) (one_more x.mirror)) (omnibuses + a) x.omnibus) (investors + a) x.investor) (technicals + a) x.technical)
 
 -- a pair: its first account, by technical issuer and account served, and the duo of its accounts
 unfoldable pub with_pair : Pair → List ℕ → List ℕ
 with_pair x l =
-    counted pair_count (with_duo x x.omnibus (with_duo x x.mirror (with_number l (served + (x.technical * account_limit + x.served)) (one_more_lem x.mirror))))
+    counted pair_count (with_duo x x.omnibus (with_duo x x.mirror (with_number l (served + (x.technical * account_limit + x.served)) (one_more x.mirror))))
 
 -- where the numbers of link n begin, 0 behind the last that an index has
 abbrev pub row_for : ℕ → ℕ
@@ -88,7 +88,7 @@ abbrev pub with_row_in : Row → Kept → Kept
 with_row_in (csd_row x) k = record { numbers = with_csd x k.numbers; names = with_bic x (number_at k.numbers (place_of csd_count)) k.names }
 with_row_in (security_row x) k = record { numbers = with_security x k.numbers; names = with_isin x (number_at k.numbers (place_of security_count)) k.names }
 with_row_in (account_row x) k = record { numbers = with_account x k.numbers; names = k.names }
-with_row_in (pair_row_lem x) k = record { numbers = with_pair x k.numbers; names = k.names }
+with_row_in (pair_row x) k = record { numbers = with_pair x k.numbers; names = k.names }
 with_row_in (link_row x) k = record { numbers = with_link x k.numbers; names = k.names }
 
 -- ---- an entry
@@ -116,19 +116,19 @@ pub record EntersSecurity (x : Security) (l b : List ℕ) (a : Answer) (l' b' : 
   pub names : b' ≡ left (security_refusal_in l b x) b (with_isin x (number_at l (place_of security_count)) b)
 
 -- the same of all that is kept
-abbrev pub kept_by_lem : ℕ → Row → Kept → Kept
-kept_by_lem zero x k = with_row_in x k
-kept_by_lem (suc n) x k = k
+abbrev pub kept_by : ℕ → Row → Kept → Kept
+kept_by zero x k = with_row_in x k
+kept_by (suc n) x k = k
 
 -- all that is kept after an entry
 unfoldable pub entered_in : Row → Kept → Kept
-entered_in x k = kept_by_lem (refusal_in k x) x k
+entered_in x k = kept_by (refusal_in k x) x k
 
 -- by the refusal's number, 0 for none
-abbrev pub entered_by_lem : ℕ → Row → Directory → Entered
-entered_by_lem zero x d = record { answer = Accepted; directory = add_row x d }
-entered_by_lem (suc n) x d = record { answer = Refused (suc n); directory = d }
+abbrev pub entered_by : ℕ → Row → Directory → Entered
+entered_by zero x d = record { answer = Accepted; directory = add_row x d }
+entered_by (suc n) x d = record { answer = Refused (suc n); directory = d }
 
 -- an entry into a directory, sound or not: its answer, and the directory after it
 unfoldable pub enter_row : Row → Directory → Entered
-enter_row x d = entered_by_lem (first_of (row_conditions (rows_of d) x)) x d
+enter_row x d = entered_by (first_of (row_conditions (rows_of d) x)) x d

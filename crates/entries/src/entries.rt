@@ -2,7 +2,7 @@
 ghost use Rattle.std.specs.Prelude.{◌≡◌, ◌+◌, ◌*◌, ◌<◌};
 ghost use Rattle.index.specs.Index.{csd_count, security_count, links, link_numbers, place_of, number_at, with_number};
 ghost use Rattle.refusals.specs.Kept.{account_refusal_in, pair_refusal_in, link_refusal_in};
-ghost use Rattle.entries.specs.Entered.{one_more_lem, with_csd, with_bic, with_security, with_isin, with_account};
+ghost use Rattle.entries.specs.Entered.{one_more, with_csd, with_bic, with_security, with_isin, with_account};
 ghost use Rattle.entries.specs.Entered.{with_duo, with_pair, row_for, with_target, with_link};
 ghost use Rattle.entries.specs.Entered.{answered, left, EntersCsd, EntersSecurity};
 
@@ -17,7 +17,7 @@ use rules::{ACCOUNTS, Account, Answer, CSDS, Csd, LINKS, Link, NO_ACCOUNT, Pair,
 
 // One more; a table's count and a pair's account are below the largest u16, which stays as it is.
 fn one_more(n: u16) -> u16
-    ensures { result ≡ one_more_lem n }
+    ensures { result ≡ one_more n }
 {
     if n < 0xffff {
         return n + 1;
@@ -27,7 +27,7 @@ fn one_more(n: u16) -> u16
 
 // One row more in the table whose count stands there.
 fn count_on(index: &mut [u16; INDEX], count: usize)
-    ensures { index.new ≡ with_number index.old count (one_more_lem (number_at index.old count)) }
+    ensures { index.new ≡ with_number index.old count (one_more (number_at index.old count)) }
 {
     let n = entry(index, count);
     store(index, count, one_more(n));

@@ -5,7 +5,7 @@ use Rattle.rules.specs.declared.Pair.{Pair}
 use Rattle.rules.specs.declared.Link.{Link}
 use Rattle.rules.specs.declared.Directory.{Directory}
 use Rattle.rules.specs.Directory.{no_csd, no_account}
-use Rattle.rules.specs.Entries.{Row, csd_row, security_row, account_row, pair_row_lem, link_row}
+use Rattle.rules.specs.Entries.{Row, csd_row, security_row, account_row, pair_row, link_row}
 use Rattle.rules.specs.Stream.{bytes}
 use Rattle.rules.specs.Outcomes.{entered_on}
 
@@ -38,7 +38,7 @@ account_by csd kind = account_row (record { csd = csd; kind = kind })
 -- an investor CSD with its technical issuer: their pair for one account served, and a default link
 abbrev pub joining : ℕ → ℕ → ℕ → ℕ → ℕ → List Row
 joining investor technical mirror omnibus served =
-    pair_row_lem (pair_by investor technical mirror omnibus served) ∷ link_row (link_by 1 investor technical 1 no_account) ∷ []
+    pair_row (pair_by investor technical mirror omnibus served) ∷ link_row (link_by 1 investor technical 1 no_account) ∷ []
 
 -- the worked example: CSD 0 has the participant 0 and the mirror 1; CSD 1 has the omnibus 2, the issuance account 3 and the participant 4
 abbrev pub worked_rows : List Row

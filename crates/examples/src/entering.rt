@@ -1,6 +1,6 @@
 // Rows of the examples, and a directory with one of them entered. Where the entry is refused, the directory is as it was.
 ghost use Rattle.std.specs.Prelude.{◌≡◌};
-ghost use Rattle.rules.specs.Entries.{csd_row, pair_row_lem, link_row};
+ghost use Rattle.rules.specs.Entries.{csd_row, pair_row, link_row};
 ghost use Rattle.examples.specs.Directories.{entering, csd_by, account_by, pair_by, link_by};
 
 use desk::{enter_account, enter_csd, enter_link, enter_pair};
@@ -68,7 +68,7 @@ pub fn with_account(directory: Directory, csd: u8, kind: u8) -> Directory
 }
 
 pub fn with_pair(directory: Directory, row: Pair) -> Directory
-    ensures { result ≡ entering (pair_row_lem row) directory }
+    ensures { result ≡ entering (pair_row row) directory }
 {
     after(enter_pair(directory, row))
 }

@@ -6,8 +6,8 @@ use Rattle.rules.specs.Calls.{Halves, delivering, receiving, side_unknown, same_
 use Rattle.halves.specs.declared.InOrder.{InOrder}
 
 -- the half that delivers, the one that receives, and what is asked of their sides
-abbrev pub in_order_lem : Halves → InOrder
-in_order_lem hs = record { delivering = delivering hs; receiving = receiving hs; unknown = side_unknown hs; same = same_side hs }
+abbrev pub in_order : Halves → InOrder
+in_order hs = record { delivering = delivering hs; receiving = receiving hs; unknown = side_unknown hs; same = same_side hs }
 
 -- A function is handed these of two halves.
 pub record Handed (hs : Halves) (h g : Half) (unknown same : Bool) : Type 0 where

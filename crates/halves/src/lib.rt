@@ -4,7 +4,7 @@ ghost use Rattle.rules.specs.Tests.{first_of};
 ghost use Rattle.rules.specs.Calls.{sided, delivering_side, delivering, receiving, side_unknown, same_side};
 ghost use Rattle.rules.specs.Calls.{half_unknown, half_out_of_range, halves_differ, both_conditions};
 ghost use Rattle.index.specs.Asked.{asked};
-ghost use Rattle.halves.specs.Halves.{in_order_lem, Faces, TermsAgree};
+ghost use Rattle.halves.specs.Halves.{in_order, Faces, TermsAgree};
 
 use index::lookups::{in_books, is_account, is_csd, is_kind, is_security};
 use index::places::INDEX;
@@ -66,7 +66,7 @@ fn same_side(first: SidedHalf, second: SidedHalf) -> bool
 
 // They are put in order here; everything behind it knows the half that delivers and the one that receives.
 pub fn in_order(first: SidedHalf, second: SidedHalf) -> InOrder
-    ensures { result ≡ in_order_lem (sided first second) }
+    ensures { result ≡ in_order (sided first second) }
 {
     let unknown = side_unknown(first, second);
     let same = same_side(first, second);

@@ -26,7 +26,7 @@ use Rattle.rules.proofs.Accounts.{security_small, books_small}
 use Rattle.rules.proofs.Soundness.{sound_gives, sound_links, few_links}
 use Rattle.rules.proofs.Pairs.{found_pair}
 use Rattle.index.specs.Index.{Indexed, Place, csd_count, security_count, account_count, pair_count, link_count, type_at, home_at, kind_at, mirror_at, omnibus_at, investor_at, technical_at, served_at, newest_at, target_at, link_at, link_numbers, row_at, number_at, place_of, newest_code, makes_target, numbers_of, link_code, index_of, type_code, home_code, duo_of, served_row, mirror_code, omnibus_code, investor_code, technical_code}
-use Rattle.index.specs.Asked.{IndexAnswers, has, read, home_by_lem, books_in, pair_by, duo_is, links_at, links_on, leads, as_issuer, as_default, is_there, is_target, asked_by}
+use Rattle.index.specs.Asked.{IndexAnswers, has, read, home_by, books_in, pair_by, duo_is, links_at, links_on, leads, as_issuer, as_default, is_there, is_target, asked_by}
 use Rattle.index.proofs.Laws.{unknown}
 use Rattle.index.proofs.Found.{any_found, any_missing}
 use Rattle.index.proofs.Read.{read_in, read_off, not_both, inside}
@@ -36,9 +36,9 @@ use Rattle.index.proofs.PairReading.{found_served, apart_by_lem, apart_by, unpai
 use Rattle.index.proofs.LinkList.{links_on_lem, walked_all}
 
 -- ---- from a code to the answer
-home_by : (o : Option Account) → ((x : Account) → o ≡ some x → x.csd < csd_limit) → home_by_lem (home_code o) ≡ csd_of o
-home_by none small = refl
-home_by (some x) small = omega (arith, small x refl)
+home_by_lem : (o : Option Account) → ((x : Account) → o ≡ some x → x.csd < csd_limit) → home_by (home_code o) ≡ csd_of o
+home_by_lem none small = refl
+home_by_lem (some x) small = omega (arith, small x refl)
 
 -- the codes of a duo compared with those of x
 duo_by : (x p : Pair)
@@ -227,9 +227,9 @@ module _ {l : List ℕ} {d : Directory} (h : Indexed l d) where
   unfolding external
   outside_told c = rw (reads (type_at c)) (type_told (get_elem? r.csds c))
 
-  home_told : (a : ℕ) → home_by_lem (read l (home_at a)) ≡ home_of r.accounts a
+  home_told : (a : ℕ) → home_by (read l (home_at a)) ≡ home_of r.accounts a
   unfolding home_of
-  home_told a = rw (reads (home_at a)) (home_by (get_elem? r.accounts a) (home_small q (facts h) a))
+  home_told a = rw (reads (home_at a)) (home_by_lem (get_elem? r.accounts a) (home_small q (facts h) a))
 
   in_books_lem : (a c : ℕ) → eqb (read l (home_at a)) (c + 1) ≡ in_books r.accounts a c
   unfolding in_books

@@ -8,15 +8,15 @@ use native.Mathlib.Omega.{arith}
 use Rattle.rules.specs.declared.Pair.{Pair}
 use Rattle.rules.specs.Tests.{any, find}
 use Rattle.index.specs.declared.lookups.PairFound.TheVariants as pair
-use Rattle.index.specs.Found.{pair_found_lem}
+use Rattle.index.specs.Found.{pair_found}
 
-pub pair_row : (o : Option Pair) (x : Pair) → pair_found_lem o ≡ pair.Row x → o ≡ some x
-unfolding pair_found_lem
-pair_row none x e = let z : ◌≡◌ {A = ℕ} 0 1 = cc in absurd (omega arith)
-pair_row (some y) x e = cc
+pub pair_row_lem : (o : Option Pair) (x : Pair) → pair_found o ≡ pair.Row x → o ≡ some x
+unfolding pair_found
+pair_row_lem none x e = let z : ◌≡◌ {A = ℕ} 0 1 = cc in absurd (omega arith)
+pair_row_lem (some y) x e = cc
 
-pub pair_missing : (o : Option Pair) → pair_found_lem o ≡ pair.Missing → o ≡ none
-unfolding pair_found_lem
+pub pair_missing : (o : Option Pair) → pair_found o ≡ pair.Missing → o ≡ none
+unfolding pair_found
 pair_missing none e = refl
 pair_missing (some y) e = let z : ◌≡◌ {A = ℕ} 0 1 = cc in absurd (omega arith)
 

@@ -29,8 +29,8 @@ pub link_of_lem : (l : List ℕ) (s c p : ℕ) → p ≢ 0 → link_of l s c p �
 link_of_lem l s c p n = rw (ne_eqb p 0 n)
 
 -- where the list does not end, a link may begin
-pub goes_on : (p : ℕ) → ends_at p ≡ false → (1 ≤ p) × (p ≤ last_row)
-goes_on p e =
+pub goes_on_lem : (p : ℕ) → ends_at p ≡ false → (1 ≤ p) × (p ≤ last_row)
+goes_on_lem p e =
     let h = or_none (eqb p 0) (ltb last_row p) e in
     let n : p ≢ 0 = eqb_not p 0 h.0 in
     (omega arith, ltb_not last_row p h.1)
@@ -65,7 +65,7 @@ module _ (l : List ℕ) (s c : ℕ) (t : Link → Bool) where
           → Finds (cond b [] (link_in l s c p ∷ older)) (cond b 0 (cond h p below))
       go true e h f older below F = record { link = refl; there = refl; small = omega arith }
       go false e true f older below F =
-          let g = goes_on p e in
+          let g = goes_on_lem p e in
           record {
             link = rw f (sym (link_of_lem l s c p (λ z. omega (arith, g.0))));
             there = rw (f, ne_eqb p 0 (λ z. omega (arith, g.0)));
@@ -79,7 +79,7 @@ module _ (l : List ℕ) (s c : ℕ) (t : Link → Bool) where
   as_many zero zero p a b = refl
   as_many zero (suc m) p a b = let z : p ≡ 0 = omega arith in rw z
   as_many (suc k) zero p a b = let z : p ≡ 0 = omega arith in rw z
-  as_many (suc k) (suc m) p a b = go (ends_at p) refl (λ h. as_many k m (older_at l p) (omega (arith, older_before l p (goes_on p h).0)) (omega (arith, older_before l p (goes_on p h).0)))
+  as_many (suc k) (suc m) p a b = go (ends_at p) refl (λ h. as_many k m (older_at l p) (omega (arith, older_before l p (goes_on_lem p h).0)) (omega (arith, older_before l p (goes_on_lem p h).0)))
     where
       go : (e : Bool) → ends_at p ≡ e → (ends_at p ≡ false → code_from l s c t k (older_at l p) ≡ code_from l s c t m (older_at l p))
           → cond e 0 (cond (t (link_in l s c p)) p (code_from l s c t k (older_at l p))) ≡ cond e 0 (cond (t (link_in l s c p)) p (code_from l s c t m (older_at l p)))

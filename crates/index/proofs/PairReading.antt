@@ -16,7 +16,7 @@ use Rattle.rules.proofs.Basics.{impossible, clash, untrue, unnot, and_both, and-
 use Rattle.rules.proofs.Facts.{Facts}
 use Rattle.rules.proofs.Duos.{duo_says, duo_is_lem}
 use Rattle.rules.proofs.Accounts.{books_small, books_real, one_csd_lem}
-use Rattle.rules.proofs.Pairs.{uses_mirror, pair_cases, pair_found, pair_none}
+use Rattle.rules.proofs.Pairs.{uses_mirror, pair_cases, pair_found_lem, pair_none}
 use Rattle.index.specs.Index.{duo_of, serves_at, served_row}
 use Rattle.index.proofs.LookingUp.{csd_small}
 
@@ -145,7 +145,7 @@ module _ (r : Rows) (F : Facts r) where
       where
         go : (o : Option Pair) → served_row r.pairs t a ≡ o → o ≡ pair_of r.pairs i t a
         go none e = sym (pair_none r.pairs i t a (λ p m f g h. no_served r.pairs t a e p m g h))
-        go (some p) e = let f = found_served r.pairs t a p e in sym (pair_found r F i t a p f.0 (own_investor b p f.0 f.2) f.1 f.2)
+        go (some p) e = let f = found_served r.pairs t a p e in sym (pair_found_lem r F i t a p f.0 (own_investor b p f.0 f.2) f.1 f.2)
 
     -- of another CSD's account it has none
     pub no_triplet : in_books r.accounts a i ≡ false → pair_of r.pairs i t a ≡ none

@@ -34,8 +34,8 @@ unfoldable pub read : List ℕ → Place → ℕ
 read l p = cond (has p) (number_at l (place_of p)) 0
 
 -- a CSD by its code, which is one more: a byte, and hex FF for no row
-abbrev pub home_by_lem : ℕ → ℕ
-home_by_lem code = (code + 0xff) % 256
+abbrev pub home_by : ℕ → ℕ
+home_by code = (code + 0xff) % 256
 
 -- the account stands in the books of this CSD
 abbrev pub books_in : List ℕ → ℕ → ℕ → Bool
@@ -120,7 +120,7 @@ asked_by links issuer default l =
       security = λ s. ltb s (read l security_count);
       account = λ a. not (eqb (read l (home_at a)) 0);
       outside = λ c. eqb (read l (type_at c)) 2;
-      home = λ a. home_by_lem (read l (home_at a));
+      home = λ a. home_by (read l (home_at a));
       books = books_in l;
       kind = λ a k. eqb (read l (kind_at a)) (k + 1);
       apart = λ a x. not (eqb (read l (mirror_at a)) 0) && not (duo_is l a x);

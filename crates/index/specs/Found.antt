@@ -15,9 +15,9 @@ use Rattle.index.specs.Index.{newest_at}
 use Rattle.index.specs.Asked.{read, link_in, ends_at, older_at, leads}
 
 -- the pair's row, or that there is none
-unfoldable pub pair_found_lem : Option Pair → PairFound
-pair_found_lem none = Missing
-pair_found_lem (some x) = Row x
+unfoldable pub pair_found : Option Pair → PairFound
+pair_found none = Missing
+pair_found (some x) = Row x
 
 -- the links that are looked for
 abbrev pub wants : Wanted → Link → Bool

@@ -5,7 +5,7 @@ ghost use Rattle.rules.specs.Directory.{account_limit, link_limit};
 ghost use Rattle.rules.specs.Lookups.{is_account_of};
 ghost use Rattle.index.specs.Index.{link_count, type_at, home_at, kind_at, omnibus_at, served_at};
 ghost use Rattle.index.specs.Asked.{read, duo_is, asked};
-ghost use Rattle.index.specs.Found.{pair_found_lem};
+ghost use Rattle.index.specs.Found.{pair_found};
 
 use crate::places::{
     ACCOUNT_COUNT, HOMES, INDEX, INVESTORS, KINDS, LINK_COUNT, MIRRORS, OMNIBUSES, PAIR_COUNT,
@@ -179,7 +179,7 @@ fn omnibus_beside(index: &[u16; INDEX], mirror: u16) -> u16
 
 // The row of an investor CSD, its technical issuer and the account served.
 pub fn pair_of(index: &[u16; INDEX], investor: u8, technical: u8, served: u16) -> PairFound
-    ensures { result ≡ pair_found_lem ((asked index.now).pair investor technical served) }
+    ensures { result ≡ pair_found ((asked index.now).pair investor technical served) }
 {
     if !in_books(index, served, investor) {
         return PairFound::Missing;

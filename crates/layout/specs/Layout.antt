@@ -14,7 +14,7 @@ use Rattle.rules.specs.declared.LinkTable.{LinkTable}
 use Rattle.rules.specs.declared.Directory.{Directory}
 use Rattle.rules.specs.declared.Steps.{Steps}
 use Rattle.rules.specs.Directory.{csd_limit, security_limit, account_limit, pair_limit, link_limit}
-use Rattle.rules.specs.Entries.{Row, csd_row, security_row, account_row, pair_row_lem, link_row, blank_account, blank_pair, blank_link}
+use Rattle.rules.specs.Entries.{Row, csd_row, security_row, account_row, pair_row, link_row, blank_account, blank_pair, blank_link}
 use Rattle.rules.specs.Chain.{step, step_limit}
 use Rattle.rules.specs.Outcomes.{step_rows}
 use Rattle.rules.specs.Stream.{account_at, pair_at, link_at}
@@ -85,21 +85,21 @@ abbrev pub account_of : Row → Account
 account_of (csd_row x) = blank_account
 account_of (security_row x) = blank_account
 account_of (account_row x) = x
-account_of (pair_row_lem x) = blank_account
+account_of (pair_row x) = blank_account
 account_of (link_row x) = blank_account
 
 abbrev pub pair_of : Row → Pair
 pair_of (csd_row x) = blank_pair
 pair_of (security_row x) = blank_pair
 pair_of (account_row x) = blank_pair
-pair_of (pair_row_lem x) = x
+pair_of (pair_row x) = x
 pair_of (link_row x) = blank_pair
 
 abbrev pub link_of : Row → Link
 link_of (csd_row x) = blank_link
 link_of (security_row x) = blank_link
 link_of (account_row x) = blank_link
-link_of (pair_row_lem x) = blank_link
+link_of (pair_row x) = blank_link
 link_of (link_row x) = x
 
 -- as the stream's decoders read them

@@ -34,7 +34,7 @@ use Rattle.codes.specs.Codes.{misfit, code_of, units_code, cents_code}
 use Rattle.wire.specs.Operands.{halves_in, day_in}
 use Rattle.codes.specs.Read.{is_entry, is_move, width, read_conditions}
 use Rattle.codes.proofs.Read.{cut_is, none_is}
-use Rattle.probe.specs.Exports.{fits, fits_sum, is_settlement, is_derivation, call_in, lending, steps_lent, entered_by_lem, chain_of}
+use Rattle.probe.specs.Exports.{fits, fits_sum, is_settlement, is_derivation, call_in, lending, steps_lent, entered_by, chain_of}
 use Rattle.probe.specs.Exports.{enters, moves, settles, derives, units_left, cents_left, Enters, Moves, Settles, Derives}
 use Rattle.probe.proofs.Read.{read_refused, read_passed, settlement_call, derivation_call}
 use Rattle.probe.proofs.Moves.{Leaves}
@@ -134,10 +134,10 @@ module _ (counts rows : List ℕ) where
       -- ---- an entry
 
       module _ (tag : ℕ) (o : List ℕ) (n : ℕ) (m : n ≡ first_of (read_conditions (is_entry tag) tag o)) (z : n ≡ 0) (part : List ℕ) (p : part ≡ take (width tag) o) (r : Entered)
-          (s : r ≡ entered_by_lem (desk (call_of tag part) (holding d [] []))) where
-        entered_is : r ≡ entered_by_lem (enters counts rows tag o)
+          (s : r ≡ entered_by (desk (call_of tag part) (holding d [] []))) where
+        entered_is : r ≡ entered_by (enters counts rows tag o)
         unfolding enters
-        entered_is = s ∙ rw (e, p) (ap entered_by_lem (sym (read_passed (is_entry tag) tag o n m (call_in tag o) (holding (directory_in counts rows) [] []) z)))
+        entered_is = s ∙ rw (e, p) (ap entered_by (sym (read_passed (is_entry tag) tag o n m (call_in tag o) (holding (directory_in counts rows) [] []) z)))
 
         answer_is : r.answer ≡ (enters counts rows tag o).answer
         answer_is = ap (λ (x : Entered). x.answer) entered_is

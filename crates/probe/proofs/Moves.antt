@@ -12,14 +12,14 @@ use Rattle.rules.specs.Entries.{Row}
 use Rattle.rules.specs.Booking.{Way}
 use Rattle.rules.specs.Calls.{Store, Call, enter, move, pay, outcome, misfit, desk_conditions, desk}
 use Rattle.rules.specs.Outcomes.{holding, entered_on, movement_on, payment_on}
-use Rattle.probe.specs.Exports.{entered_by_lem}
+use Rattle.probe.specs.Exports.{entered_by}
 
 -- what a call on the store answers and leaves
 abbrev pub Leaves : Call → Store → Answer → List ℤ → List ℤ → Type 0
 Leaves k st r p c = (r ≡ (desk k st).answer) × (p ≡ (desk k st).store.positions) × (c ≡ (desk k st).store.cash)
 
-pub entered_by : (d : Directory) (k : Call) (x : Row) → enter x ≡ k → (r : Entered) → r ≡ entered_on d x → r ≡ entered_by_lem (desk k (holding d [] []))
-entered_by d k x e r q = q ∙ ap (λ (y : Call). entered_by_lem (desk y (holding d [] []))) e
+pub entered_by_lem : (d : Directory) (k : Call) (x : Row) → enter x ≡ k → (r : Entered) → r ≡ entered_on d x → r ≡ entered_by (desk k (holding d [] []))
+entered_by_lem d k x e r q = q ∙ ap (λ (y : Call). entered_by (desk y (holding d [] []))) e
 
 module _ (d : Directory) (p c : List ℤ) where
   moved_by : (n : ℕ) (w : Way) (a s q day : ℕ)

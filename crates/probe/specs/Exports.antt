@@ -56,8 +56,8 @@ unfoldable pub obeyed : Bool → ℕ → List ℕ → Call → Store → Outcome
 obeyed known tag o k st = outcome (first_of (read_conditions known tag o ++ desk_conditions k st)) k st
 
 -- an entry's outcome: its answer, and the directory after it
-abbrev pub entered_by_lem : Outcome → Entered
-entered_by_lem x = record { answer = x.answer; directory = x.store.directory }
+abbrev pub entered_by : Outcome → Entered
+entered_by x = record { answer = x.answer; directory = x.store.directory }
 
 -- an entry into the directory that the buffers stand for
 unfoldable pub enters : List ℕ → List ℕ → ℕ → List ℕ → Outcome

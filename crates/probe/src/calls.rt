@@ -10,7 +10,7 @@ ghost use Rattle.wire.specs.Operands.{halves_in, day_in};
 ghost use Rattle.layout.specs.Layout.{steps_put};
 ghost use Rattle.codes.specs.Codes.{code_of};
 ghost use Rattle.codes.specs.Read.{is_entry, is_move};
-ghost use Rattle.probe.specs.Exports.{is_settlement, is_derivation, entered_by_lem};
+ghost use Rattle.probe.specs.Exports.{is_settlement, is_derivation, entered_by};
 ghost use Rattle.probe.specs.Exports.{Enters, Moves, Settles, Derives, TotalsUnits, TotalsCents};
 
 use codes::{accepted, code_of, is_entry, is_move, read_refusal, width};
@@ -26,7 +26,7 @@ const MISFIT: u64 = 1280;
 
 fn entry(directory: Directory, tag: u8, operands: &[u8]) -> Entered
     requires { (is_entry tag ≡ true) × (width_of tag ≡ some (length operands.now)) }
-    ensures { result ≡ entered_by_lem (desk (call_of tag operands.now) (holding directory [] [])) }
+    ensures { result ≡ entered_by (desk (call_of tag operands.now) (holding directory [] [])) }
 {
     if tag == 1 {
         return desk::enter_csd(directory, operands::decode_csd(operands));

@@ -6,12 +6,12 @@ use mathlib.Core.List.{List, [], ◌∷◌, ◌++◌, map}
 use lib.ListN.{length, get_or, take, drop}
 use Rattle.rules.specs.declared.Directory.{Directory}
 use Rattle.rules.specs.Directory.{Rows, rows_of}
-use Rattle.rules.specs.Entries.{Row, security_row, account_row, pair_row_lem, link_row, within_limits}
+use Rattle.rules.specs.Entries.{Row, security_row, account_row, pair_row, link_row, within_limits}
 use Rattle.rules.proofs.Basics.{unnot, unnot_false}
 use Rattle.index.proofs.Laws.{ahead, over}
 use Rattle.refusals.specs.Kept.{Kept, refusal_in}
 use Rattle.entries.specs.Entered.{with_row_in}
-use Rattle.reading.specs.Read.{Reading, Reads, read_by, read_rows, in_order_lem, read_directory, kept}
+use Rattle.reading.specs.Read.{Reading, Reads, read_by, read_rows, in_order, read_directory, kept}
 
 -- a reading that ended with this answer and these lists
 abbrev pub ended : Bool → Kept → Reading
@@ -47,9 +47,9 @@ module _ {A : Type 0} {put : A → Row} {rows : List A} {n : ℕ} {whole : Readi
     pub stops : (r ≡ 0 → ⊥) → Reads whole false l b
     stops f = told whole false l b (sym inv.ends ∙ rw (ahead rows n i d g h) (row_refused (put (get_or rows i d)) _ (kept l b) (λ e. f (judged ∙ e))))
 
-    pub goes_on : r ≡ 0 → {l' b' : List ℕ} → l' ≡ (with_row_in (put (get_or rows i d)) (kept l b)).numbers → b' ≡ (with_row_in (put (get_or rows i d)) (kept l b)).names
+    pub goes_on_lem : r ≡ 0 → {l' b' : List ℕ} → l' ≡ (with_row_in (put (get_or rows i d)) (kept l b)).numbers → b' ≡ (with_row_in (put (get_or rows i d)) (kept l b)).names
         → Ahead put rows n whole (i + 1) l' b'
-    goes_on e p q =
+    goes_on_lem e p q =
         record { ends = rw (p, q) (sym (row_added (put (get_or rows i d)) _ (kept l b) (sym judged ∙ e)) ∙ (sym (rw (ahead rows n i d g h)) ∙ inv.ends)) }
 
 -- ---- the rows xs, then ys, of which none is read where one of xs is refused
@@ -72,7 +72,7 @@ pub record Left (whole : Reading) (xs : List Row) (k : Kept) : Type 0 where
 
 -- the rows from a table on
 abbrev pub from_pairs : Rows → List Row
-from_pairs r = map pair_row_lem r.pairs ++ map link_row r.links
+from_pairs r = map pair_row r.pairs ++ map link_row r.links
 
 abbrev pub from_accounts : Rows → List Row
 from_accounts r = map account_row r.accounts ++ from_pairs r
@@ -81,7 +81,7 @@ abbrev pub from_securities : Rows → List Row
 from_securities r = map security_row r.securities ++ from_accounts r
 
 module _ (d : Directory) (l b : List ℕ) {r : Bool} (few : r ≡ within_limits d) where
-  pub first_table : not r ≡ false → Left (read_directory d (kept l b)) (in_order_lem (rows_of d)) (kept l b)
+  pub first_table : not r ≡ false → Left (read_directory d (kept l b)) (in_order (rows_of d)) (kept l b)
   unfolding read_directory
   first_table h = record { ends = rw (sym few ∙ unnot_false r h) }
 

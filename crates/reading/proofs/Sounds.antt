@@ -11,9 +11,9 @@ use Rattle.rules.specs.declared.Account.{Account}
 use Rattle.rules.specs.declared.Pair.{Pair}
 use Rattle.rules.specs.declared.Link.{Link}
 use Rattle.rules.specs.declared.Directory.{Directory}
-use Rattle.rules.specs.Tests.{each_after_lem, first_of}
+use Rattle.rules.specs.Tests.{each_after, first_of}
 use Rattle.rules.specs.Directory.{Rows, rows_of}
-use Rattle.rules.specs.Entries.{Row, csd_row, security_row, account_row, pair_row_lem, link_row, row_conditions, add_row, empty_directory, Sized}
+use Rattle.rules.specs.Entries.{Row, csd_row, security_row, account_row, pair_row, link_row, row_conditions, add_row, empty_directory, Sized}
 use Rattle.rules.specs.Entries.{csd_refusal, security_refusal, account_refusal, pair_refusal, link_refusal}
 use Rattle.rules.specs.Entries.{csds_sound, securities_sound, accounts_sound, pairs_sound, links_sound, within_limits, sound_rows, sound}
 use Rattle.rules.specs.Demands.{with_row, no_rows}
@@ -25,7 +25,7 @@ use Rattle.entries.specs.Entered.{with_row_in}
 use Rattle.refusals.proofs.Refusing.{refusal_is}
 use Rattle.entries.proofs.Keeping.{keeps_grown}
 use Rattle.entries.proofs.Empty.{keeps_empty}
-use Rattle.reading.specs.Read.{read_rows, in_order_lem, read_directory, nothing_kept, ReadingSounds}
+use Rattle.reading.specs.Read.{read_rows, in_order, read_directory, nothing_kept, ReadingSounds}
 use Rattle.reading.proofs.Loops.{ended}
 
 -- ---- rows after rows by the rules: whether each is accepted after those before it, and all of them together
@@ -45,7 +45,7 @@ module _ {A : Type 0} (put : A → Row) (among : List A → Rows) (more : (b : L
   table_rows b (x ∷ l) = ap (λ q. with_rows q (map put l ++ xs)) (more b x) ∙ (table_rows (b ++ (x ∷ [])) l ∙ rw append_assoc)
 
   table_accepts : (b l : List A)
-      → accepts (among b) (map put l ++ xs) ≡ (each_after_lem (λ before x. eqb (first_of (row_conditions (among before) (put x))) 0) b l && accepts (among (b ++ l)) xs)
+      → accepts (among b) (map put l ++ xs) ≡ (each_after (λ before x. eqb (first_of (row_conditions (among before) (put x))) 0) b l && accepts (among (b ++ l)) xs)
   table_accepts b [] = rw append-nil
   table_accepts b (x ∷ l) = rw (more b x, table_accepts (b ++ (x ∷ [])) l, append_assoc, and_assoc)
 
@@ -66,7 +66,7 @@ module _ (r : Rows) where
   abbrev with_links : List Link → Rows
   with_links l = record { csds = r.csds; securities = r.securities; accounts = r.accounts; pairs = r.pairs; links = l }
 
-  all_accepts : accepts no_rows (in_order_lem r) ≡ sound_rows r
+  all_accepts : accepts no_rows (in_order r) ≡ sound_rows r
   unfolding sound_rows csds_sound securities_sound accounts_sound pairs_sound links_sound csd_refusal security_refusal account_refusal pair_refusal link_refusal
   all_accepts =
       rw (
@@ -74,19 +74,19 @@ module _ (r : Rows) where
         table_accepts csd_row with_csds (λ b x. refl) _ [] r.csds,
         table_accepts security_row with_securities (λ b x. refl) _ [] r.securities,
         table_accepts account_row with_accounts (λ b x. refl) _ [] r.accounts,
-        table_accepts pair_row_lem with_pairs (λ b x. refl) _ [] r.pairs,
+        table_accepts pair_row with_pairs (λ b x. refl) _ [] r.pairs,
         table_accepts link_row with_links (λ b x. refl) [] [] r.links,
         and-true,
       )
 
-  all_rows : with_rows no_rows (in_order_lem r) ≡ r
+  all_rows : with_rows no_rows (in_order r) ≡ r
   all_rows =
       rw (
         ← append-nil (map link_row r.links),
         table_rows csd_row with_csds (λ b x. refl) _ [] r.csds,
         table_rows security_row with_securities (λ b x. refl) _ [] r.securities,
         table_rows account_row with_accounts (λ b x. refl) _ [] r.accounts,
-        table_rows pair_row_lem with_pairs (λ b x. refl) _ [] r.pairs,
+        table_rows pair_row with_pairs (λ b x. refl) _ [] r.pairs,
         table_rows link_row with_links (λ b x. refl) [] [] r.links,
       )
 
@@ -100,8 +100,8 @@ module _ (k : Kept) (r : Rows) (h : Holds k r) (x : Row) where
   judged : refusal_in k x ≡ first_of (row_conditions r x)
   judged = refusal_is k h.directory x h.keeps ∙ ap (λ q. first_of (row_conditions q x)) h.rows
 
-  one_more : refusal_in k x ≡ 0 → Holds (with_row_in x k) (with_row x r)
-  one_more e =
+  one_more_lem : refusal_in k x ≡ 0 → Holds (with_row_in x k) (with_row x r)
+  one_more_lem e =
       let d = h.directory in
       let w = h.keeps.indexed.whole in
       let z : Sized d = record { csds = w.csds; securities = w.securities; accounts = w.accounts; pairs = w.pairs; links = w.links } in
@@ -116,7 +116,7 @@ pub record Told (xs : List Row) (k : Kept) (r : Rows) : Type 0 where
 told : (xs : List Row) (k : Kept) (r : Rows) → Holds k r → Told xs k r
 unfolding read_rows
 told [] k r h = record { accepted = refl; holds = λ e. h }
-told (x ∷ xs) k r h = go (refusal_in k x) refl (λ e. told xs (with_row_in x k) (with_row x r) (one_more k r h x e))
+told (x ∷ xs) k r h = go (refusal_in k x) refl (λ e. told xs (with_row_in x k) (with_row x r) (one_more_lem k r h x e))
   where
     go : (n : ℕ) → refusal_in k x ≡ n → (refusal_in k x ≡ 0 → Told xs (with_row_in x k) (with_row x r)) → Told (x ∷ xs) k r
     go zero e t =
@@ -130,8 +130,8 @@ none_held : Holds nothing_kept no_rows
 unfolding nothing_kept
 none_held = record { directory = empty_directory; keeps = keeps_empty; rows = empty_rows }
 
-all_told : (d : Directory) → Told (in_order_lem (rows_of d)) nothing_kept no_rows
-all_told d = told (in_order_lem (rows_of d)) nothing_kept no_rows none_held
+all_told : (d : Directory) → Told (in_order (rows_of d)) nothing_kept no_rows
+all_told d = told (in_order (rows_of d)) nothing_kept no_rows none_held
 
 -- what is kept of some directory with these rows is kept of every one that is sound
 keeps_all : (k : Kept) (d : Directory) → WholeTables d → sound d ≡ true → Holds k (rows_of d) → Keeps k d
@@ -146,7 +146,7 @@ sounds : (d : Directory) → WholeTables d → (read_directory d nothing_kept).a
 unfolding read_directory sound
 sounds d w = go (within_limits d)
   where
-    go : (b : Bool) → (cond b (read_rows (in_order_lem (rows_of d)) nothing_kept) (ended false nothing_kept)).accepted ≡ (b && sound_rows (rows_of d))
+    go : (b : Bool) → (cond b (read_rows (in_order (rows_of d)) nothing_kept) (ended false nothing_kept)).accepted ≡ (b && sound_rows (rows_of d))
     go true = (all_told d).accepted ∙ all_accepts (rows_of d)
     go false = refl
 

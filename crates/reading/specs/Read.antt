@@ -2,7 +2,7 @@
 use Rattle.std.specs.Prelude.{ℕ, zero, suc, ◌≡◌, Bool, true, false, cond, List, [], ◌∷◌, ◌++◌, map, replicate}
 use Rattle.rules.specs.declared.Directory.{Directory}
 use Rattle.rules.specs.Directory.{Rows, rows_of}
-use Rattle.rules.specs.Entries.{Row, csd_row, security_row, account_row, pair_row_lem, link_row, within_limits, sound}
+use Rattle.rules.specs.Entries.{Row, csd_row, security_row, account_row, pair_row, link_row, within_limits, sound}
 use Rattle.index.specs.Index.{index_size, WholeTables}
 use Rattle.identifiers.specs.Names.{names_size}
 use Rattle.refusals.specs.Kept.{Kept, Keeps, refusal_in}
@@ -24,12 +24,12 @@ read_rows [] k = record { accepted = true; kept = k }
 read_rows (x ∷ xs) k = read_by (refusal_in k x) x k (λ after. read_rows xs after)
 
 -- "tables taken in this order"
-abbrev pub in_order_lem : Rows → List Row
-in_order_lem r = map csd_row r.csds ++ (map security_row r.securities ++ (map account_row r.accounts ++ (map pair_row_lem r.pairs ++ map link_row r.links)))
+abbrev pub in_order : Rows → List Row
+in_order r = map csd_row r.csds ++ (map security_row r.securities ++ (map account_row r.accounts ++ (map pair_row r.pairs ++ map link_row r.links)))
 
 -- "counts are within limits", then the rows
 unfoldable pub read_directory : Directory → Kept → Reading
-read_directory d k = cond (within_limits d) (read_rows (in_order_lem (rows_of d)) k) (record { accepted = false; kept = k })
+read_directory d k = cond (within_limits d) (read_rows (in_order (rows_of d)) k) (record { accepted = false; kept = k })
 
 -- what two lists keep
 abbrev pub kept : List ℕ → List ℕ → Kept

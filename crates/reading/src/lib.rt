@@ -1,7 +1,7 @@
 // A directory read into an index: each row is judged and added as an entry is, in the order of soundness. Where a row is refused the directory is not sound.
 ghost use Rattle.std.specs.Prelude.{◌≡◌, map};
 ghost use Rattle.rules.specs.Directory.{csd_rows, security_rows, account_rows, pair_rows, link_rows};
-ghost use Rattle.rules.specs.Entries.{csd_row, security_row, account_row, pair_row_lem, link_row, within_limits};
+ghost use Rattle.rules.specs.Entries.{csd_row, security_row, account_row, pair_row, link_row, within_limits};
 ghost use Rattle.reading.specs.Read.{kept, Reads, ReadsNumbers, read_rows, read_directory};
 
 use entries::entries::{add_account, add_csd, add_link, add_pair, add_security};
@@ -78,7 +78,7 @@ fn read_accounts(accounts: AccountTable, index: &mut [u16; INDEX]) -> bool
 
 // The pairs.
 fn read_pairs(pairs: PairTable, index: &mut [u16; INDEX]) -> bool
-    ensures { ReadsNumbers (map pair_row_lem (pair_rows pairs)) index.old result index.new }
+    ensures { ReadsNumbers (map pair_row (pair_rows pairs)) index.old result index.new }
 {
     let mut i: usize = 0;
     while i < PAIRS {

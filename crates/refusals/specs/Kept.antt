@@ -8,7 +8,7 @@ use Rattle.rules.specs.declared.Link.{Link}
 use Rattle.rules.specs.declared.Directory.{Directory}
 use Rattle.rules.specs.Tests.{first_of}
 use Rattle.rules.specs.Directory.{rows_of, csd_limit, security_limit, link_limit}
-use Rattle.rules.specs.Entries.{Row, csd_row, security_row, account_row, pair_row_lem, link_row, csd_conditions, security_conditions, account_conditions, pair_conditions, link_conditions}
+use Rattle.rules.specs.Entries.{Row, csd_row, security_row, account_row, pair_row, link_row, csd_conditions, security_conditions, account_conditions, pair_conditions, link_conditions}
 use Rattle.index.specs.Index.{Indexed, csd_count, security_count, link_count}
 use Rattle.index.specs.Asked.{read, asked}
 use Rattle.identifiers.specs.Names.{bic_in, isin_in, Named}
@@ -54,5 +54,5 @@ abbrev pub refusal_in : Kept → Row → ℕ
 refusal_in k (csd_row x) = csd_refusal_in k.numbers k.names x
 refusal_in k (security_row x) = security_refusal_in k.numbers k.names x
 refusal_in k (account_row x) = account_refusal_in k.numbers x
-refusal_in k (pair_row_lem x) = pair_refusal_in k.numbers x
+refusal_in k (pair_row x) = pair_refusal_in k.numbers x
 refusal_in k (link_row x) = link_refusal_in k.numbers x

@@ -123,10 +123,10 @@ module _ (cs : List Csd) (acc : List Account) (x : Account) where
       from (Refusals.home_unknown l) = l
 
   kind_range : Says (AccountRefused cs acc x 7) (ltb 4 x.kind)
-  kind_range = says_as (says_lt 4 x.kind) Refusals.no_kind_lem from
+  kind_range = says_as (says_lt 4 x.kind) Refusals.no_kind from
     where
       from : AccountRefused cs acc x 7 → 4 < x.kind
-      from (Refusals.no_kind_lem l) = l
+      from (Refusals.no_kind l) = l
 
   home_outside : Says (AccountRefused cs acc x 10) (external cs x.csd)
   home_outside = says_as (says_external cs x.csd) Refusals.home_external from

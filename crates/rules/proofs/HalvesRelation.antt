@@ -20,7 +20,7 @@ use Rattle.rules.proofs.Reflection.{Says, says_as, says_or, says_eq, says_ne, sa
 use Rattle.rules.proofs.Places.{listed}
 use Rattle.rules.proofs.RowTests.{says_no_row, known, says_other_kind, says_other_csd}
 use Rattle.rules.proofs.AmountRelation.{says_out_of_range}
-use Rattle.rules.proofs.SideRelation.{delivers_is, is_delivers, among_either, delivering_among, receiving_among, says_side_unknown, says_one_side, sides_number}
+use Rattle.rules.proofs.SideRelation.{delivers_is, is_delivers, among_either, delivering_among, receiving_among, says_side_unknown, says_one_side, sides_number, no_side_number}
 
 -- ---- one half
 module _ (r : Rows) (h : Half) where
@@ -119,7 +119,7 @@ module _ (r : Rows) (hs : Halves) where
     where
       from : Parts 6 → HalfRefused r h 6 ⊎ HalfRefused r g 6
       from (inl x) = x
-      from (inr (inl x)) = elim x [ ]
+      from (inr (inl x)) = absurd (no_side_number hs 6 (omega arith) (omega arith) x)
       from (inr (inr x)) = elim x [ ]
 
   pub halves_range : Says (HalvesRefused r hs 7) (range || side_unknown hs)
@@ -142,7 +142,7 @@ module _ (r : Rows) (hs : Halves) where
     where
       from : Parts 10 → HalfRefused r h 10 ⊎ HalfRefused r g 10
       from (inl x) = x
-      from (inr (inl x)) = elim x [ ]
+      from (inr (inl x)) = absurd (no_side_number hs 10 (omega arith) (omega arith) x)
       from (inr (inr x)) = elim x [ ]
 
   pub halves_side : Says (HalvesRefused r hs 23) (same_side hs)
@@ -181,7 +181,7 @@ module _ (r : Rows) (hs : Halves) where
       (says_or (not (in_books r.accounts g.account h.counterpart)) (not (in_books r.accounts h.account g.counterpart))
       (says_other_csd r.accounts g.account h.counterpart z.0 z.1)
       (says_other_csd r.accounts h.account g.counterpart y.0 y.1)))))
-      (λ x. Refusals.both h g d (to x)) (λ x. from (as_both (λ p. elim p [ ]) (λ p. elim p [ ]) (λ p. elim p [ ]) (parts 12 x)))
+      (λ x. Refusals.both h g d (to x)) (λ x. from (as_both (λ p. elim p [ ]) (λ p. elim p [ ]) (no_side_number hs 12 (omega arith) (omega arith)) (parts 12 x)))
     where
       to : Differ → BothRefused r h g 12
       to (inl x) = Refusals.securities x
@@ -200,7 +200,7 @@ module _ (r : Rows) (hs : Halves) where
   pub halves_same : Delivers hs h g → Says (HalvesRefused r hs 13) (eqb h.account g.account)
   halves_same d =
       says_as (says_eq h.account g.account) (λ x. Refusals.both h g d (Refusals.same_account x))
-      (λ x. from (as_both (λ p. elim p [ ]) (λ p. elim p [ ]) (λ p. elim p [ ]) (parts 13 x)))
+      (λ x. from (as_both (λ p. elim p [ ]) (λ p. elim p [ ]) (no_side_number hs 13 (omega arith) (omega arith)) (parts 13 x)))
     where
       from : BothRefused r h g 13 → h.account ≡ g.account
       from (Refusals.same_account x) = x

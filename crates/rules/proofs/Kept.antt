@@ -8,7 +8,7 @@ use Prim.Native.Nat.{ℕ, ◌<◌}
 use lib.IntN.{ℤ, pos, ◌+ℤ◌, +ℤ_idr}
 use Rattle.rules.specs.Types.{Pair, Answer, Refused}
 use Rattle.rules.specs.Directory.{Rows, rows_of, security_limit}
-use Rattle.rules.specs.Entries.{csd_row, security_row, account_row, pair_row_lem, link_row, Sized}
+use Rattle.rules.specs.Entries.{csd_row, security_row, account_row, pair_row, link_row, Sized}
 use Rattle.rules.specs.Calls.{Store, Call, enter, move, pay, settle, derive, is_accepted, Item, item, empty_store}
 use Rattle.rules.specs.Demands.{grown, made, brings, brought, pays, paid_in, PairEntered, now, before, Unchanged, Changed, EachChanged, Balanced}
 use Rattle.rules.proofs.AmountRelation.{says_floored}
@@ -101,14 +101,14 @@ pairs_stay : (c : Call) (r : Rows) (p : Pair) → Memᴰ p r.pairs → Memᴰ p 
 pairs_stay (enter (csd_row x)) r p m = m
 pairs_stay (enter (security_row x)) r p m = m
 pairs_stay (enter (account_row x)) r p m = m
-pairs_stay (enter (pair_row_lem x)) r p m = Memᴰ.append_left (x ∷ []) m
+pairs_stay (enter (pair_row x)) r p m = Memᴰ.append_left (x ∷ []) m
 pairs_stay (enter (link_row x)) r p m = m
 pairs_stay (move w a s q day) r p m = m
 pairs_stay (pay w a m') r p m = m
 pairs_stay (settle hs day lent) r p m = m
 pairs_stay (derive hs day lent) r p m = m
 
-pair_added : (c : Call) (r : Rows) (p : Pair) → c ≡ enter (pair_row_lem p) → Memᴰ p (grown c r).pairs
+pair_added : (c : Call) (r : Rows) (p : Pair) → c ≡ enter (pair_row p) → Memᴰ p (grown c r).pairs
 pair_added c r p e = rw e (Memᴰ.append_right r.pairs (Memᴰ.head refl))
 
 module _ (c : Call) (x : Answer) (items : List Item) (st left : Store) (ok : is_accepted x ≡ true) where

@@ -9,7 +9,7 @@ use lib.ListN.{length, get_elem?, length-append}
 use Rattle.rules.specs.Types.{Csd, Account, Pair, Link}
 use Rattle.rules.specs.Tests.{is_row}
 use Rattle.rules.specs.Directory.{Rows, on_day, external, is_kind, in_books}
-use Rattle.rules.specs.Entries.{Row, csd_row, security_row, account_row, pair_row_lem, link_row}
+use Rattle.rules.specs.Entries.{Row, csd_row, security_row, account_row, pair_row, link_row}
 use Rattle.rules.specs.Demands.{with_row}
 use Rattle.rules.specs.Booking.{floored}
 use Rattle.rules.proofs.Basics.{or_left, or_right, or_cases, ltb_is, ltb-true}
@@ -70,7 +70,7 @@ pub grows : (x : Row) (r : Rows) → Grows r (with_row x r)
 grows (csd_row x) r = record { csds = longer r.csds x; securities = same r.securities; accounts = same r.accounts }
 grows (security_row x) r = record { csds = same r.csds; securities = longer r.securities x; accounts = same r.accounts }
 grows (account_row x) r = record { csds = same r.csds; securities = same r.securities; accounts = longer r.accounts x }
-grows (pair_row_lem x) r = record { csds = same r.csds; securities = same r.securities; accounts = same r.accounts }
+grows (pair_row x) r = record { csds = same r.csds; securities = same r.securities; accounts = same r.accounts }
 grows (link_row x) r = record { csds = same r.csds; securities = same r.securities; accounts = same r.accounts }
 
 -- the rows of a day: tables other than that of the links are the same

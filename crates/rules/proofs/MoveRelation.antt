@@ -24,7 +24,7 @@ use Rattle.rules.proofs.Places.{Renders, end, skip, test, stop, entry_places}
 use Rattle.rules.proofs.RowTests.{says_no_row, known, says_external, says_other_kind}
 use Rattle.rules.proofs.AmountRelation.{says_less, says_beyond, says_units_short, says_units_beyond, says_out_of_range}
 use Rattle.rules.proofs.Facts.{Facts}
-use Rattle.rules.proofs.Pairs.{found_pair, pair_found, no_pair_lem, pair_none}
+use Rattle.rules.proofs.Pairs.{found_pair, pair_found_lem, no_pair_lem, pair_none}
 use Rattle.rules.proofs.Links.{issuer_has, has_issuer_lem, no_issuer_lem, issuer_found, default_found, found_default, default_none}
 
 -- ---- the contra account
@@ -69,7 +69,7 @@ module _ (r : Rows) (F : Facts r) (s c a : ℕ) where
   unfolding contra issuance
   contra_is u (Refusals.issuance l i) = rw (issuer_has r s c l i, issuer_found r s c F l i)
   contra_is u (Refusals.inter_csd l p n d x m e f g) =
-      rw (no_issuer_lem r s c n, default_found r s c F l d, (says_external r.csds l.technical).tests x, pair_found r F c l.technical a p m e f g)
+      rw (no_issuer_lem r s c n, default_found r s c F l d, (says_external r.csds l.technical).tests x, pair_found_lem r F c l.technical a p m e f g)
 
   pub contra_none : Missing → contra (ask r) s c a ≡ none
   unfolding contra issuance

@@ -26,6 +26,7 @@ stop p = test (record { holds = λ e. p; tests = λ q. refl }) (λ e. absurd (cl
 module _ {P : ℕ → Type 0} where
   -- where no condition holds, no number applies
   pub none_applies : {cs : List Condition} {ns : List ℕ} → Renders P cs ns → first_of cs ≡ 0 → (n : ℕ) → Memᴰ n ns → P n → ⊥
+  none_applies end e n i p = elim i [ ]
   none_applies (skip never r) e n (Memᴰ.head h) p = never (rw h at p)
   none_applies (skip never r) e n (Memᴰ.tail i) p = none_applies r e n i p
   none_applies (test {m = m} {b = b} {ns = ns} {cs = cs} S r) e n i p = go b refl e i (λ f g j. none_applies (r f) g n j p)
@@ -54,6 +55,7 @@ module _ {P : ℕ → Type 0} where
 
   -- the first that applies is the number given
   pub first_given : {cs : List Condition} {ns : List ℕ} → Renders P cs ns → (n : ℕ) → First P n ns → first_of cs ≡ n
+  first_given end n x4 = elim x4 [ ]
   first_given (skip never r) n (now p) = absurd (never p)
   first_given (skip never r) n (later k f) = first_given r n f
   first_given (test S r) n (now p) = rw (S.tests p)
@@ -85,6 +87,7 @@ spans lo hi [] = true
 spans lo hi (m ∷ ns) = (leb lo m && leb m hi) && spans lo hi ns
 
 spanned : (lo hi : ℕ) (ns : List ℕ) → spans lo hi ns ≡ true → (n : ℕ) → Memᴰ n ns → (lo ≤ n) × (n ≤ hi)
+spanned lo hi [] e n x'' = elim x'' [ ]
 spanned lo hi (m ∷ ns) e n (Memᴰ.head h) =
     let both = and_both (leb lo m) (leb m hi) (and_both (leb lo m && leb m hi) (spans lo hi ns) e).0 in
     (rw h (leb_is lo m both.0), rw h (leb_is m hi both.1))

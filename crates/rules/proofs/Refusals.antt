@@ -12,11 +12,11 @@ use lib.Dec.{eqb}
 use lib.ListN.{length}
 use Rattle.rules.specs.Tests.{Condition, ◌when◌, first_of}
 use Rattle.rules.specs.Directory.{Rows, rows_of}
-use Rattle.rules.specs.Entries.{Row, csd_row, security_row, account_row, pair_row_lem, link_row, row_conditions, sound}
+use Rattle.rules.specs.Entries.{Row, csd_row, security_row, account_row, pair_row, link_row, row_conditions, sound}
 use Rattle.rules.specs.Lookups.{home_of, ask}
 use Rattle.rules.specs.Chain.{unchained, steps_of, chain_conditions}
 use Rattle.rules.specs.Booking.{Way, contra, move_by, move_chain, move_conditions, position_count, cash_count, security_total_by, security_total_conditions, cash_total_by, cash_total_conditions}
-use Rattle.rules.specs.Calls.{Halves, Store, Call, enter, move, pay, settle, derive, desk, core, outcome, success, core_conditions, desk_conditions, delivering, receiving, halves_conditions, halves_chain, derive_conditions, book_conditions, settle_conditions, is_accepted, units_number_lem, cents_number, desk_security_total, desk_cash_total}
+use Rattle.rules.specs.Calls.{Halves, Store, Call, enter, move, pay, settle, derive, desk, core, outcome, success, core_conditions, desk_conditions, delivering, receiving, halves_conditions, halves_chain, derive_conditions, book_conditions, settle_conditions, is_accepted, units_number, cents_number, desk_security_total, desk_cash_total}
 use Rattle.rules.specs.Demands.{Numbered, Refuses}
 use Rattle.rules.proofs.Basics.{impossible, Quiet, quiet}
 use Rattle.rules.proofs.Places.{in_places}
@@ -40,7 +40,7 @@ row_ranges : (r : Rows) (x : Row) → Ranging (row_conditions r x)
 row_ranges r (csd_row x) = refl
 row_ranges r (security_row x) = refl
 row_ranges r (account_row x) = refl
-row_ranges r (pair_row_lem x) = refl
+row_ranges r (pair_row x) = refl
 row_ranges r (link_row x) = refl
 
 derive_ranges : (r : Rows) (hs : Halves) → Ranging (derive_conditions (ask r) hs)
@@ -97,12 +97,12 @@ accepted_free c st e = accepted_zero (first_of (desk_conditions c st)) c st e
 outcome_refuses : (n : ℕ) (c : Call) (st : Store) → (n ≡ 0) ⊎ ((3 ≤ n) × (n ≤ 24)) → Refuses c st (outcome n c st)
 outcome_refuses zero c st h =
     record {
-      by_number_lem = λ e. absurd (true≢false (sym (success_accepted c st) ∙ e));
+      by_number = λ e. absurd (true≢false (sym (success_accepted c st) ∙ e));
       store_as_before = λ e. absurd (true≢false (sym (success_accepted c st) ∙ e));
       steps_as_before = λ e. absurd (true≢false (sym (success_accepted c st) ∙ e));
     }
 outcome_refuses (suc n) c st (inl e) = absurd (omega arith)
-outcome_refuses (suc n) c st (inr h) = record { by_number_lem = λ e. in_places (suc n) h.0 h.1; store_as_before = λ e. refl; steps_as_before = λ e. refl }
+outcome_refuses (suc n) c st (inr h) = record { by_number = λ e. in_places (suc n) h.0 h.1; store_as_before = λ e. refl; steps_as_before = λ e. refl }
 
 pub desk_refuses : (c : Call) (st : Store) → Refuses c st (desk c st)
 unfolding desk
@@ -122,12 +122,12 @@ units_conditions d p s = 3 when not (eqb (length p) position_count) ∷ 4 when n
 abbrev pub cash_conditions : List ℤ → List Condition
 cash_conditions c = 3 when not (eqb (length c) cash_count) ∷ cash_total_conditions c
 
-units_by : (n : ℕ) (z : Units) → (n ≡ 0) ⊎ ((3 ≤ n) × (n ≤ 24)) → Numbered (units_number_lem (security_total_by n z))
+units_by : (n : ℕ) (z : Units) → (n ≡ 0) ⊎ ((3 ≤ n) × (n ≤ 24)) → Numbered (units_number (security_total_by n z))
 units_by zero z h = λ ne. absurd (ne refl)
 units_by (suc n) z (inl e) = absurd (omega arith)
 units_by (suc n) z (inr h) = λ ne. in_places (suc n) h.0 h.1
 
-pub units_numbered : (d : Directory) (p : List ℤ) (s : ℕ) → Numbered (units_number_lem (desk_security_total d p s))
+pub units_numbered : (d : Directory) (p : List ℤ) (s : ℕ) → Numbered (units_number (desk_security_total d p s))
 unfolding desk_security_total
 units_numbered d p s =
     units_by (first_of (units_conditions d p s)) _ (first_range 3 24 (units_conditions d p s) refl)

@@ -11,9 +11,9 @@ use lib.ListN.{length}
 use Rattle.rules.specs.Types.{Account, Directory, Units, Cents, SumUnits, SumCents}
 use Rattle.rules.specs.Tests.{is_row, Condition, first_of}
 use Rattle.rules.specs.Directory.{Rows, rows_of, rows_on, account_limit, is_kind}
-use Rattle.rules.specs.Entries.{Row, csd_row, security_row, account_row, pair_row_lem, link_row, sound}
+use Rattle.rules.specs.Entries.{Row, csd_row, security_row, account_row, pair_row, link_row, sound}
 use Rattle.rules.specs.Booking.{position_count, cash_count, held_in, cash_on, beyond, participants, every_account, sum_beyond, participant_sum, cash_sum, security_total_by, cash_total_by}
-use Rattle.rules.specs.Calls.{Halves, Store, Call, enter, move, pay, settle, derive, misfit, core_conditions, desk_conditions, outcome, desk, success, number_of, units_number_lem, cents_number, desk_security_total, desk_cash_total}
+use Rattle.rules.specs.Calls.{Halves, Store, Call, enter, move, pay, settle, derive, misfit, core_conditions, desk_conditions, outcome, desk, success, number_of, units_number, cents_number, desk_security_total, desk_cash_total}
 use Rattle.rules.specs.Demands.{Decides, Ruled, Totalled}
 use Rattle.rules.specs.Relations.{Is}
 use Rattle.rules.specs.Refusals
@@ -25,6 +25,7 @@ use Rattle.rules.proofs.RowTests.{says_no_row, says_kind_is}
 use Rattle.rules.proofs.AmountRelation.{says_beyond}
 use Rattle.rules.proofs.SoundRelation.{row_renders, says_sound}
 use Rattle.rules.proofs.LentRelation.{says_misfit}
+use Rattle.rules.proofs.SideRelation.{no_side_number}
 use Rattle.rules.proofs.MoveRelation.{move_renders, pay_renders}
 use Rattle.rules.proofs.SettleRelation.{derive_renders, settle_renders}
 use Rattle.rules.proofs.Refusals.{units_conditions, cash_conditions}
@@ -36,7 +37,7 @@ pub decides : {P : ℕ → Type 0} {cs : List Condition} (number : ℕ) → firs
 decides {P} {cs} number e R =
     record {
       when_clear = λ clear. sym e ∙ none_holds R clear;
-      only_then_lem = λ z. none_applies R (e ∙ z);
+      only_then = λ z. none_applies R (e ∙ z);
       when_first = λ n f. sym e ∙ first_given R n f;
       is_first = λ ne. go number e ne;
     }
@@ -60,19 +61,19 @@ row_early : (r : Rows) (x : Row) → (RowRefused r x 3 → ⊥) × (RowRefused r
 row_early r (csd_row x) = ((λ p. elim p [ ]), (λ p. elim p [ ]))
 row_early r (security_row x) = ((λ p. elim p [ ]), (λ p. elim p [ ]))
 row_early r (account_row x) = ((λ p. elim p [ ]), (λ p. elim p [ ]))
-row_early r (pair_row_lem x) = ((λ p. elim p [ ]), (λ p. elim p [ ]))
+row_early r (pair_row x) = ((λ p. elim p [ ]), (λ p. elim p [ ]))
 row_early r (link_row x) = ((λ p. elim p [ ]), (λ p. elim p [ ]))
 
 module _ (r : Rows) (hs : Halves) where
   derive_three : DeriveRefused r hs 3 → ⊥
   derive_three (Refusals.halves (Refusals.each h a x)) = elim x [ ]
-  derive_three (Refusals.halves (Refusals.sides x)) = elim x [ ]
+  derive_three (Refusals.halves (Refusals.sides x)) = no_side_number hs 3 (omega arith) (omega arith) x
   derive_three (Refusals.halves (Refusals.both h g d x)) = elim x [ ]
   derive_three (Refusals.chain h g d c) = elim c [ ]
 
   derive_four : DeriveRefused r hs 4 → ⊥
   derive_four (Refusals.halves (Refusals.each h a x)) = elim x [ ]
-  derive_four (Refusals.halves (Refusals.sides x)) = elim x [ ]
+  derive_four (Refusals.halves (Refusals.sides x)) = no_side_number hs 4 (omega arith) (omega arith) x
   derive_four (Refusals.halves (Refusals.both h g d x)) = elim x [ ]
   derive_four (Refusals.chain h g d c) = elim c [ ]
 
@@ -222,15 +223,15 @@ module _ (c : List ℤ) where
       (skip {m = 15} (λ x. elim x [ ]) (skip {m = 16} (λ x. elim x [ ]) (skip {m = 17} (λ x. elim x [ ]) (skip {m = 18} (λ x. elim x [ ])
       (skip {m = 19} (λ x. elim x [ ]) (skip {m = 20} (λ x. elim x [ ]) (skip {m = 21} (λ x. elim x [ ]) (test cash_beyond_lem (λ e22. end))))))))))))))))))))))
 
-units_number : (n : ℕ) (z : Units) → units_number_lem (security_total_by n z) ≡ n
-units_number zero z = refl
-units_number (suc n) z = refl
+units_number_lem : (n : ℕ) (z : Units) → units_number (security_total_by n z) ≡ n
+units_number_lem zero z = refl
+units_number_lem (suc n) z = refl
 
 cents_number_lem : (n : ℕ) (z : Cents) → cents_number (cash_total_by n z) ≡ n
 cents_number_lem zero z = refl
 cents_number_lem (suc n) z = refl
 
-units_sum_lem : (n : ℕ) (z : Units) → units_number_lem (security_total_by n z) ≡ 0 → security_total_by n z ≡ SumUnits z
+units_sum_lem : (n : ℕ) (z : Units) → units_number (security_total_by n z) ≡ 0 → security_total_by n z ≡ SumUnits z
 units_sum_lem zero z e = refl
 units_sum_lem (suc n) z e = absurd (omega arith)
 
@@ -242,7 +243,7 @@ pub totalled : Totalled
 unfolding desk_security_total desk_cash_total
 totalled =
     record {
-      units = λ d p s. decides _ (sym (units_number (first_of (units_conditions d p s)) (participant_sum (is_kind (rows_of d).accounts) p s))) (units_renders d p s);
+      units = λ d p s. decides _ (sym (units_number_lem (first_of (units_conditions d p s)) (participant_sum (is_kind (rows_of d).accounts) p s))) (units_renders d p s);
       units_sum = λ d p s. units_sum_lem (first_of (units_conditions d p s)) (participant_sum (is_kind (rows_of d).accounts) p s);
       cents = λ c. decides _ (sym (cents_number_lem (first_of (cash_conditions c)) (cash_sum c))) (cash_renders c);
       cents_sum = λ c. cents_sum_lem (first_of (cash_conditions c)) (cash_sum c);

@@ -23,6 +23,7 @@ use Rattle.rules.proofs.Reflection.{Says, says_as, says_or, says_and, says_ne}
 use Rattle.rules.proofs.Places.{Renders, end, skip, test, stop, up_from, entry_places}
 use Rattle.rules.proofs.AmountRelation.{says_less, says_beyond, says_units_short, says_units_beyond}
 use Rattle.rules.proofs.SideRelation.{delivers_is}
+use Rattle.rules.proofs.SideRelation.{no_side_number}
 use Rattle.rules.proofs.HalvesRelation.{Early, halves_unknown, halves_range, halves_kind, halves_side, two_sides, halves_differ_lem, halves_same, halves_else, halves_early}
 use Rattle.rules.proofs.Facts.{Facts}
 use Rattle.rules.proofs.ChainNumbers.{chain_apart, apart_chain}
@@ -141,13 +142,13 @@ module _ (r : Rows) (F : Facts r) (hs : Halves) where
     pub renders_then : (cs : List Condition) → (Delivers hs h g → (steps : List Step) → called ≡ chained steps → Renders Q cs (up_from 19 4 []))
         → Renders Q (halves_conditions (ask r) hs ++ (chain_conditions called ++ cs)) entry_places
     renders_then cs rest =
-        skip (passed 5 (inl (omega arith)) (halves_else r hs (λ p. elim p [ ]) (λ p. elim p [ ]) (λ p. elim p [ ]) (λ p. elim p [ ])))
+        skip (passed 5 (inl (omega arith)) (halves_else r hs (λ p. elim p [ ]) (λ p. elim p [ ]) (no_side_number hs 5 (omega arith) (omega arith)) (λ p. elim p [ ])))
         (test (tested 6 (inl (omega arith)) (halves_unknown r hs)) (λ e6. test (tested 7 (inl (omega arith)) (halves_range r hs)) (λ e7.
-        skip (passed 8 (inl (omega arith)) (halves_else r hs (λ p. elim p [ ]) (λ p. elim p [ ]) (λ p. elim p [ ]) (λ p. elim p [ ])))
-        (skip (passed 9 (inl (omega arith)) (halves_else r hs (λ p. elim p [ ]) (λ p. elim p [ ]) (λ p. elim p [ ]) (λ p. elim p [ ])))
+        skip (passed 8 (inl (omega arith)) (halves_else r hs (λ p. elim p [ ]) (λ p. elim p [ ]) (no_side_number hs 8 (omega arith) (omega arith)) (λ p. elim p [ ])))
+        (skip (passed 9 (inl (omega arith)) (halves_else r hs (λ p. elim p [ ]) (λ p. elim p [ ]) (no_side_number hs 9 (omega arith) (omega arith)) (λ p. elim p [ ])))
         (test (tested 10 (inl (omega arith)) (halves_kind r hs e6)) (λ e10.
-        skip (passed 24 (inr (omega arith)) (halves_else r hs (λ p. elim p [ ]) (λ p. elim p [ ]) (λ p. elim p [ ]) (λ p. elim p [ ])))
-        (skip (passed 11 (inl (omega arith)) (halves_else r hs (λ p. elim p [ ]) (λ p. elim p [ ]) (λ p. elim p [ ]) (λ p. elim p [ ])))
+        skip (passed 24 (inr (omega arith)) (halves_else r hs (λ p. elim p [ ]) (λ p. elim p [ ]) (no_side_number hs 24 (omega arith) (omega arith)) (λ p. elim p [ ])))
+        (skip (passed 11 (inl (omega arith)) (halves_else r hs (λ p. elim p [ ]) (λ p. elim p [ ]) (no_side_number hs 11 (omega arith) (omega arith)) (λ p. elim p [ ])))
         (test (tested 23 (inr (omega arith)) (halves_side r hs)) (λ e23. let d = two_sides r hs e7 e23 in behind_sides e6 d cs (rest d))))))))))
 
   -- ---- 0B, 0D

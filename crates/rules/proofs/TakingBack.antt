@@ -158,7 +158,7 @@ module _ (st : Store) (hs : Halves) (day : ℕ) (lent : List Step) where
 
   booked_by : (h g : Half) (K : ℕ) → Delivers hs h g → (desk (settle hs day lent) st).answer ≡ Booked K → (steps : List Step) × (K ≡ length steps) × Pair h g steps
   booked_by h g K sides e =
-      let b = (books st hs day lent).only_then_lem K e in
+      let b = (books st hs day lent).only_then K e in
       let own = delivers_is hs b.0 b.1 b.3.sides in
       let given = delivers_is hs h g sides in
       (b.2, b.4, subst (λ (y : Half). Pair h y b.2) (own.1 ∙ sym given.1) (subst (λ (x : Half). Pair x b.1 b.2) (own.0 ∙ sym given.0) (b.3, b.5)))

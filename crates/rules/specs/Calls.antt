@@ -54,9 +54,9 @@ is_accepted (Chained k) = true
 is_accepted (Refused n) = false
 
 -- this paper's number for the answer of a total: the refusal, and 0 for a sum
-abbrev pub units_number_lem : SecurityTotal → ℕ
-units_number_lem (SumUnits z) = 0
-units_number_lem (NoUnits n) = n
+abbrev pub units_number : SecurityTotal → ℕ
+units_number (SumUnits z) = 0
+units_number (NoUnits n) = n
 
 -- of cash
 abbrev pub cents_number : CashTotal → ℕ

@@ -3,11 +3,11 @@ use Rattle.std.specs.Prelude.{◌≡◌, ◌≢◌, Bool, true, false, cond, ℕ
 use mathlib.Core.List.{List, [], ◌∷◌, ◌++◌, Memᴰ}
 use Rattle.rules.specs.Types.{Account, Pair, Directory, Half, Step, Answer, Accepted, Booked, Chained, Refused, SumUnits, SumCents}
 use Rattle.rules.specs.Directory.{Rows, rows_of, on_day, rows_on, is_kind, in_books, no_account, account_limit, security_limit}
-use Rattle.rules.specs.Entries.{Row, csd_row, security_row, account_row, pair_row_lem, link_row, add_row, Sized}
+use Rattle.rules.specs.Entries.{Row, csd_row, security_row, account_row, pair_row, link_row, add_row, Sized}
 use Rattle.rules.specs.Lookups.{home_of}
 use Rattle.rules.specs.Chain.{step_limit}
 use Rattle.rules.specs.Booking.{Way, incoming, outgoing, limit, cash_count, held_in, cash_on, sum, every_account, participants, participant_sum, cash_sum, move_step, payment}
-use Rattle.rules.specs.Calls.{Halves, Store, Call, enter, move, pay, settle, derive, Outcome, Item, item, run, desk, core, desk_security_total, desk_cash_total, success, written, lent_steps, is_accepted, number_of, units_number_lem, cents_number, empty_store}
+use Rattle.rules.specs.Calls.{Halves, Store, Call, enter, move, pay, settle, derive, Outcome, Item, item, run, desk, core, desk_security_total, desk_cash_total, success, written, lent_steps, is_accepted, number_of, units_number, cents_number, empty_store}
 use Rattle.rules.specs.Relations.{Is, ChainIs}
 use Rattle.rules.specs.Refusals.{before_chain, places, NoneApplies, First, ParticipantOrOmnibus, Beyond, Sound, Misfits, ContraOf, Delivers, Applies, UnitsTotalRefused, CashTotalRefused}
 
@@ -19,7 +19,7 @@ Numbered n = n ≢ 0 → Memᴰ n places
 
 -- of one call with its outcome: a refusal is a number of the documents, and leaves everything as it was
 pub record Refuses (c : Call) (st : Store) (o : Outcome) : Type 0 where
-  pub by_number_lem : is_accepted o.answer ≡ false → Memᴰ (number_of o.answer) places
+  pub by_number : is_accepted o.answer ≡ false → Memᴰ (number_of o.answer) places
   pub store_as_before : is_accepted o.answer ≡ false → o.store ≡ st
   pub steps_as_before : is_accepted o.answer ≡ false → o.steps ≡ lent_steps c
 
@@ -27,7 +27,7 @@ pub record Refuses (c : Call) (st : Store) (o : Outcome) : Type 0 where
 pub record Demand1 : Type 0 where
   pub desks : (c : Call) (st : Store) → Refuses c st (desk c st)
   pub cores : (c : Call) (st : Store) → Refuses c st (core c st)
-  pub units_totals : (d : Directory) (p : List ℤ) (s : ℕ) → Numbered (units_number_lem (desk_security_total d p s))
+  pub units_totals : (d : Directory) (p : List ℤ) (s : ℕ) → Numbered (units_number (desk_security_total d p s))
   pub cash_totals : (c : List ℤ) → Numbered (cents_number (desk_cash_total c))
 
 -- ---- Demand 2, the chain: "For two halves that nothing before 14 turns away, a derivation returns a chain exactly when document 01's T2S
@@ -53,7 +53,7 @@ pub record Derives (st : Store) (hs : Halves) (day : ℕ) (lent : List Step) : T
   pub receiving : Half
   pub sides : Delivers hs delivering receiving
   pub when_given : (steps : List Step) → ChainOfHalves st day delivering receiving steps → Returns (desk (derive hs day lent) st) (Chained (length steps)) steps lent
-  pub only_then_lem : (k : ℕ) → (desk (derive hs day lent) st).answer ≡ Chained k
+  pub only_then : (k : ℕ) → (desk (derive hs day lent) st).answer ≡ Chained k
       → (steps : List Step) × ChainOfHalves st day delivering receiving steps × (k ≡ length steps) × Returns (desk (derive hs day lent) st) (Chained k) steps lent
   pub one : (xs ys : List Step) → ChainOfHalves st day delivering receiving xs → ChainOfHalves st day delivering receiving ys → xs ≡ ys
 
@@ -128,7 +128,7 @@ pub record BookedPair (st : Store) (hs : Halves) (day : ℕ) (lent : List Step) 
 -- booked exactly when bookable
 pub record Books (st : Store) (hs : Halves) (day : ℕ) (lent : List Step) : Type 0 where
   pub when_bookable : (h g : Half) (steps : List Step) → Bookable st hs day lent h g steps → BookedPair st hs day lent h g steps
-  pub only_then_lem : (k : ℕ) → (desk (settle hs day lent) st).answer ≡ Booked k
+  pub only_then : (k : ℕ) → (desk (settle hs day lent) st).answer ≡ Booked k
       → (h g : Half) × (steps : List Step) × Bookable st hs day lent h g steps × (k ≡ length steps) × BookedPair st hs day lent h g steps
 
 -- ---- Demand 2, every call: "accepted exactly when no number applies, and then changes what the document says and no more"
@@ -136,7 +136,7 @@ pub record Books (st : Store) (hs : Halves) (day : ℕ) (lent : List Step) : Typ
 -- the number answered, 0 for none: 0 exactly when no number applies, else the first in the order of places that does
 pub record Decides (applies : ℕ → Type 0) (number : ℕ) : Type 0 where
   pub when_clear : NoneApplies applies → number ≡ 0
-  pub only_then_lem : number ≡ 0 → NoneApplies applies
+  pub only_then : number ≡ 0 → NoneApplies applies
   pub when_first : (n : ℕ) → First applies n places → number ≡ n
   pub is_first : number ≢ 0 → First applies number places
 
@@ -147,8 +147,8 @@ pub record Ruled (c : Call) (st : Store) : Type 0 where
 
 -- so does a total: the sum, or the refusal
 pub record Totalled : Type 0 where
-  pub units : (d : Directory) (p : List ℤ) (s : ℕ) → Decides (UnitsTotalRefused d p s) (units_number_lem (desk_security_total d p s))
-  pub units_sum : (d : Directory) (p : List ℤ) (s : ℕ) → units_number_lem (desk_security_total d p s) ≡ 0
+  pub units : (d : Directory) (p : List ℤ) (s : ℕ) → Decides (UnitsTotalRefused d p s) (units_number (desk_security_total d p s))
+  pub units_sum : (d : Directory) (p : List ℤ) (s : ℕ) → units_number (desk_security_total d p s) ≡ 0
       → desk_security_total d p s ≡ SumUnits (participant_sum (is_kind (rows_of d).accounts) p s)
   pub cents : (c : List ℤ) → Decides (CashTotalRefused c) (cents_number (desk_cash_total c))
   pub cents_sum : (c : List ℤ) → cents_number (desk_cash_total c) ≡ 0 → desk_cash_total c ≡ SumCents (cash_sum c)
@@ -162,7 +162,7 @@ abbrev pub with_row : Row → Rows → Rows
 with_row (csd_row x) r = record { csds = r.csds ++ (x ∷ []); securities = r.securities; accounts = r.accounts; pairs = r.pairs; links = r.links }
 with_row (security_row x) r = record { csds = r.csds; securities = r.securities ++ (x ∷ []); accounts = r.accounts; pairs = r.pairs; links = r.links }
 with_row (account_row x) r = record { csds = r.csds; securities = r.securities; accounts = r.accounts ++ (x ∷ []); pairs = r.pairs; links = r.links }
-with_row (pair_row_lem x) r = record { csds = r.csds; securities = r.securities; accounts = r.accounts; pairs = r.pairs ++ (x ∷ []); links = r.links }
+with_row (pair_row x) r = record { csds = r.csds; securities = r.securities; accounts = r.accounts; pairs = r.pairs ++ (x ∷ []); links = r.links }
 with_row (link_row x) r = record { csds = r.csds; securities = r.securities; accounts = r.accounts; pairs = r.pairs; links = r.links ++ (x ∷ []) }
 
 -- what document 01 says that an accepted call changes. An entry adds its row behind the rows in use, where the arrays are as long as their
@@ -245,7 +245,7 @@ paid_in (i ∷ h) = paid_in h +ℤ cond (is_accepted i.answer) (pays i.call) (po
 
 -- "A mirror and its omnibus are the two that one accepted pair entry names." (01) They are a duo, however many entries name them (02)
 pub data PairEntered (p : Pair) : List Item → Type 0 where
-  now : {i : Item} {h : List Item} → i.call ≡ enter (pair_row_lem p) → is_accepted i.answer ≡ true → PairEntered p (i ∷ h)
+  now : {i : Item} {h : List Item} → i.call ≡ enter (pair_row p) → is_accepted i.answer ≡ true → PairEntered p (i ∷ h)
   before : {i : Item} {h : List Item} → PairEntered p h → PairEntered p (i ∷ h)
 
 -- "changed nothing"

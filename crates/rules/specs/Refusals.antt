@@ -6,7 +6,7 @@ use Rattle.rules.specs.Types.{Csd, Security, Account, Pair, Link, Directory, Hal
 use Rattle.rules.specs.Identifiers.{byte_at}
 use Rattle.rules.specs.Directory.{Rows, rows_of, rows_on, csd_limit, security_limit, account_limit, pair_limit, link_limit, no_csd, no_account}
 use Rattle.rules.specs.Lookups.{home_of}
-use Rattle.rules.specs.Entries.{Row, csd_row, security_row, account_row, pair_row_lem, link_row}
+use Rattle.rules.specs.Entries.{Row, csd_row, security_row, account_row, pair_row, link_row}
 use Rattle.rules.specs.Chain.{step_limit}
 use Rattle.rules.specs.Booking.{Way, outgoing, limit, position_count, cash_count, held_in, cash_on, move_step, payment}
 use Rattle.rules.specs.Calls.{Halves, ordered, sided, Store, Call, enter, move, pay, settle, derive, delivering_side, receiving_side}
@@ -99,7 +99,7 @@ pub data SecurityRefused (ss : List Security) (x : Security) : ℕ → Type 0 wh
 pub data AccountRefused (cs : List Csd) (acc : List Account) (x : Account) : ℕ → Type 0 where
   accounts_full : account_limit ≤ length acc → AccountRefused cs acc x 5
   home_unknown : NoRow cs x.csd → AccountRefused cs acc x 6
-  no_kind_lem : 4 < x.kind → AccountRefused cs acc x 7
+  no_kind : 4 < x.kind → AccountRefused cs acc x 7
   home_external : External cs x.csd → AccountRefused cs acc x 10
 
 -- the account is one of the row's two; of hex FFFF "Neither ever counts as already entered or shared", and "A served account doesn't count as
@@ -204,7 +204,7 @@ abbrev pub RowRefused : Rows → Row → ℕ → Type 0
 RowRefused r (csd_row x) = CsdRefused r.csds x
 RowRefused r (security_row x) = SecurityRefused r.securities x
 RowRefused r (account_row x) = AccountRefused r.csds r.accounts x
-RowRefused r (pair_row_lem x) = PairRefused r.csds r.accounts r.pairs x
+RowRefused r (pair_row x) = PairRefused r.csds r.accounts r.pairs x
 RowRefused r (link_row x) = LinkRefused r.csds r.securities r.accounts r.links x
 
 -- ---- the directory and the lent lists

@@ -6,7 +6,7 @@ use Rattle.std.proofs.Math.Option.{Option, none, some}
 use Rattle.std.proofs.Math.ListN.{get_elem?}
 use Rattle.rules.specs.Types.{Account, Security, Half, SidedHalf, Step, Units, Cents, Answer, Accepted, Booked, Chained, Refused}
 use Rattle.rules.specs.Directory.{rows_of, is_kind}
-use Rattle.rules.specs.Entries.{Row, csd_row, security_row, account_row, pair_row_lem, link_row}
+use Rattle.rules.specs.Entries.{Row, csd_row, security_row, account_row, pair_row, link_row}
 use Rattle.rules.specs.Chain.{step_limit}
 use Rattle.rules.specs.Booking.{Way, incoming, outgoing, participant_sum, cash_sum}
 use Rattle.rules.specs.Calls.{Halves, ordered, sided, Store, Call, enter, move, pay, settle, derive, Outcome, desk, count_of, empty_store}
@@ -37,7 +37,7 @@ account_at o = account_row (record { csd = number_at o 0 1; kind = number_at o 1
 -- "investor 1, technical 1, accounts 2 and 2" (01); "Command 0E enters the longer row, served account last (2 bytes)" (02)
 abbrev pub pair_at : List ℕ → Row
 pair_at o =
-    pair_row_lem (record {
+    pair_row (record {
       investor = number_at o 0 1;
       technical = number_at o 1 1;
       mirror = number_at o 2 2;
@@ -154,14 +154,14 @@ pub data Next : Type 0 where
   command : ℕ → List ℕ → List ℕ → Next
 
 -- by the width of the operands that a command byte asks for
-abbrev pub by_width_lem : ℕ → List ℕ → Option ℕ → Next
-by_width_lem tag rest none = unknown
-by_width_lem tag rest (some w) = cond (ltb (length rest) w) cut (command tag (take w rest) (drop w rest))
+abbrev pub by_width : ℕ → List ℕ → Option ℕ → Next
+by_width tag rest none = unknown
+by_width tag rest (some w) = cond (ltb (length rest) w) cut (command tag (take w rest) (drop w rest))
 
 -- "the operands are the bytes from there to the command's end"
 unfoldable pub next_of : List ℕ → Next
 next_of [] = ended
-next_of (tag ∷ rest) = by_width_lem tag rest (width_of tag)
+next_of (tag ∷ rest) = by_width tag rest (width_of tag)
 
 -- ---- text
 

@@ -23,9 +23,9 @@ all_below zero p = true
 all_below (suc n) p = all_below n p && p n
 
 -- each row passes the test after the rows before it
-abbrev pub each_after_lem : {A : Type 0} → (List A → A → Bool) → List A → List A → Bool
-each_after_lem p before [] = true
-each_after_lem p before (x ∷ l) = p before x && each_after_lem p (before ++ (x ∷ [])) l
+abbrev pub each_after : {A : Type 0} → (List A → A → Bool) → List A → List A → Bool
+each_after p before [] = true
+each_after p before (x ∷ l) = p before x && each_after p (before ++ (x ∷ [])) l
 
 -- the number names a row: rows are "numbered from 0 by entry"
 unfoldable pub is_row : {A : Type 0} → List A → ℕ → Bool

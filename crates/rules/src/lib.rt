@@ -1,4 +1,5 @@
 // The types that every crate shares. Their meaning is document 01's, written in specs/.
+#![tactic(auto)]
 
 pub mod refusal; // refusal.rt: the numbers of the refusals
 

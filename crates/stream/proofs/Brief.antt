@@ -127,7 +127,7 @@ brief st ready n tag w o h k =
     (λ l hs day. paired (derive hs day program_steps) l (derive_brief st ready hs day program_steps))
   where
     lower : (c : Call) → number_of (desk c st).answer < 100
-    lower c = low (desk c st).answer (λ e. places_range (number_of (desk c st).answer) ((demand1.desks c st).by_number_lem e))
+    lower c = low (desk c st).answer (λ e. places_range (number_of (desk c st).answer) ((demand1.desks c st).by_number e))
 
     plain : (c : Call) → count_of (success c st) ≡ 0 → length (said n (desk c st).answer (desk c st).steps) ≤ 6 * (w + 1)
     plain c e =

@@ -15,7 +15,7 @@ use Rattle.rules.specs.Tests.{is_row}
 use Rattle.rules.specs.Directory.{Rows, csd_limit, account_limit, is_kind}
 use Rattle.rules.specs.Lookups.{home_of, ask}
 use Rattle.rules.specs.Chain.{chained, turned, last_of, chain}
-use Rattle.rules.specs.Relations.{Walks, ends_outside, ends_inside, ends_without_link, goes_on_lem, Directs, arrives, takes, follows, Joins, same, meets, ahead, back, issuers, externals, Tops, one_step, issuance_steps, no_step, Climbs, stands, rises, ChainIs}
+use Rattle.rules.specs.Relations.{Walks, ends_outside, ends_inside, ends_without_link, goes_on, Directs, arrives, takes, follows, Joins, same, meets, ahead, back, issuers, externals, Tops, one_step, issuance_steps, no_step, Climbs, stands, rises, ChainIs}
 use Rattle.rules.proofs.Basics.{ltb_is}
 use Rattle.rules.proofs.Bookings.{touched_debited, touched_credited}
 use Rattle.rules.proofs.Facts.{Facts}
@@ -39,7 +39,7 @@ module _ (r : Rows) (F : Facts r) (s : ℕ) where
   walks_first c path e (ends_outside x) = refl
   walks_first c path e (ends_inside l x i) = refl
   walks_first c path e (ends_without_link x n m) = refl
-  walks_first c path e (goes_on_lem l x n d w) = refl
+  walks_first c path e (goes_on l x n d w) = refl
 
   directs_first : (t c : ℕ) (path : List ℕ) → Directs r.csds r.links s t c path → First c path
   directs_first t c path arrives = refl

@@ -93,8 +93,8 @@ module _ (s before out : List ℕ) (st : Store) (at number end : ℕ) (g : Going
     turn : Turned s (number + 1) at st here
     turn = turned s (number + 1) at st (omega (arith, g.counted)) h g.ready g.bounded
 
-    goes_on : (after : List ℕ) (t : Turn) (h' : Held) → Takes here out end after t h' → Going s before after here.left t.at (number + 1) t.end
-    goes_on after t h' k =
+    goes_on_lem : (after : List ℕ) (t : Turn) (h' : Held) → Takes here out end after t h' → Going s before after here.left t.at (number + 1) t.end
+    goes_on_lem after t h' k =
         let m = turn in
         let on : t.at ≡ here.at = k.on in
         let text : Fitted out end after t.end here.text = fits k.lines (omega (arith, g.roomy h, g.same, m.fits, m.within)) in
@@ -188,7 +188,7 @@ module _ (s before out : List ℕ) (h : Held) (at number end : ℕ) (r : Running
           record {
             store = (told s (number + 1) at r.store).left;
             holds = k.left;
-            going = goes_on s before out r.store at number end r.going short large l after t h' k;
+            going = goes_on_lem s before out r.store at number end r.going short large l after t h' k;
           }
 
       pub less_left : length s - t.at < length s - at

@@ -19,7 +19,7 @@ use Rattle.rules.specs.Stream.{program_steps}
 use Rattle.index.specs.Asked.{asked, asked_on}
 use Rattle.index.proofs.Answers.{answers}
 use Rattle.refusals.specs.Kept.{Kept, kept_in, Keeps, refusal_in}
-use Rattle.entries.specs.Entered.{with_row_in, answered, left, kept_by_lem, entered_in, entered_by_lem, enter_row}
+use Rattle.entries.specs.Entered.{with_row_in, answered, left, kept_by, entered_in, entered_by, enter_row}
 use Rattle.entries.proofs.Keeping.{keeps_entered, answer_is}
 use Rattle.chain.specs.StepList.{steps_in}
 use Rattle.chain.specs.Derivation.{derived, derived_into, DerivedIn, Derives}
@@ -55,13 +55,13 @@ enter_called : (x : Row) (st : Store) → core (enter x) st ≡ entered_on st (e
 unfolding core enter_row
 enter_called x st = go (first_of (row_conditions (rows_of st.directory) x))
   where
-    go : (n : ℕ) → outcome n (enter x) st ≡ entered_on st (entered_by_lem n x st.directory)
+    go : (n : ℕ) → outcome n (enter x) st ≡ entered_on st (entered_by n x st.directory)
     go zero = refl
     go (suc n) = refl
 
-kept_by : (n : ℕ) (x : Row) (k : Kept) → kept_in (left n k.numbers (with_row_in x k).numbers) (left n k.names (with_row_in x k).names) ≡ kept_by_lem n x k
-kept_by zero x k = refl
-kept_by (suc n) x k = refl
+kept_by_lem : (n : ℕ) (x : Row) (k : Kept) → kept_in (left n k.numbers (with_row_in x k).numbers) (left n k.names (with_row_in x k).names) ≡ kept_by n x k
+kept_by_lem zero x k = refl
+kept_by_lem (suc n) x k = refl
 
 module _ (call : Call) (x : Row) (l b : List ℕ) (a : Answer) (is : call ≡ enter x) (answer : a ≡ answered (refusal_in (kept_in l b) x)) (l' : List ℕ)
     (numbers : l' ≡ left (refusal_in (kept_in l b) x) l (with_row_in x (kept_in l b)).numbers) where
@@ -70,7 +70,7 @@ module _ (call : Call) (x : Row) (l b : List ℕ) (a : Answer) (is : call ≡ en
   entry_obeys b' names p c y st h =
       let k = kept_in l b in
       let keeps : Keeps (entered_in x k) (enter_row x st.directory).directory = keeps_entered k st.directory x h.kept in
-      let after : kept_in l' b' ≡ entered_in x k = rw (numbers, names) (kept_by (refusal_in k x) x k) in
+      let after : kept_in l' b' ≡ entered_in x k = rw (numbers, names) (kept_by_lem (refusal_in k x) x k) in
       rw (is, after)
       (plain_obeys (enter x) st a (record { kept = entered_in x k; positions = p; cash = c; steps = y }) refl
       (rw (enter_called x st) (answer ∙ answer_is k st.directory x h.kept))

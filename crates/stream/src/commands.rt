@@ -3,7 +3,7 @@
 ghost use Rattle.std.specs.Prelude.{◌≡◌, List, ℕ, ◌<◌, ◌≤◌};
 ghost use Rattle.rules.specs.Calls.{Halves};
 ghost use Rattle.rules.specs.Stream.{call_of};
-ghost use Rattle.halves.specs.Halves.{in_order_lem, Handed};
+ghost use Rattle.halves.specs.Halves.{in_order, Handed};
 ghost use Rattle.wire.specs.Operands.{halves_in, day_in};
 ghost use Rattle.stream.specs.Obeyed.{held, Does, Enters, Moves, Pays, Whole, instruction};
 ghost use Rattle.refusals.specs.Kept.{kept_in};
@@ -70,7 +70,7 @@ fn move_money(index: &[u16; INDEX], cash: &mut [i64], tag: u8, operands: &[u8]) 
 
 // The halves of 0A to 0D.
 fn read_pair(tag: u8, operands: &[u8]) -> InOrder
-    ensures { result ≡ in_order_lem (halves_in tag operands.now) }
+    ensures { result ≡ in_order (halves_in tag operands.now) }
 {
     if tag < 12 {
         return InOrder {

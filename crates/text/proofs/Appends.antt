@@ -114,20 +114,20 @@ more word i h a b =
 -- ---- bytes written one after another, where there is room
 
 -- one byte more behind a text
-pub one_more : {out out₁ x : List ℕ} {at mid : ℕ} (end b : ℕ) → Appended out at out₁ mid x → mid < length out → end ≡ mid + 1
+pub one_more_lem : {out out₁ x : List ℕ} {at mid : ℕ} (end b : ℕ) → Appended out at out₁ mid x → mid < length out → end ≡ mid + 1
     → Appended out at (set out₁ mid b) end (x ++ (b ∷ []))
-one_more {out} {out₁} {x} {at} {mid} end b a h e = rw e (then a (one_byte out₁ mid b (omega (arith, a.same))))
+one_more_lem {out} {out₁} {x} {at} {mid} end b a h e = rw e (then a (one_byte out₁ mid b (omega (arith, a.same))))
 
 pub two_bytes : (out : List ℕ) (at a b : ℕ) → at + 1 < length out → Appended out at (set (set out at a) (at + 1) b) (at + 2) (a ∷ (b ∷ []))
-two_bytes out at a b h = one_more (at + 2) b (one_byte out at a (omega arith)) h (omega arith)
+two_bytes out at a b h = one_more_lem (at + 2) b (one_byte out at a (omega arith)) h (omega arith)
 
 pub three_bytes : (out : List ℕ) (at a b c : ℕ) → at + 2 < length out
     → Appended out at (set (set (set out at a) (at + 1) b) (at + 2) c) (at + 3) (a ∷ (b ∷ (c ∷ [])))
-three_bytes out at a b c h = one_more (at + 3) c (two_bytes out at a b (omega arith)) h (omega arith)
+three_bytes out at a b c h = one_more_lem (at + 3) c (two_bytes out at a b (omega arith)) h (omega arith)
 
 pub four_bytes : (out : List ℕ) (at a b c d : ℕ) → at + 3 < length out
     → Appended out at (set (set (set (set out at a) (at + 1) b) (at + 2) c) (at + 3) d) (at + 4) (a ∷ (b ∷ (c ∷ (d ∷ []))))
-four_bytes out at a b c d h = one_more (at + 4) d (three_bytes out at a b c (omega arith)) h (omega arith)
+four_bytes out at a b c d h = one_more_lem (at + 4) d (three_bytes out at a b c (omega arith)) h (omega arith)
 
 -- a text over the last byte of another
 pub over : {out out₁ out₂ v : List ℕ} {at mid last end y : ℕ} (x : List ℕ) (b : ℕ) → Appended out at out₁ last (x ++ (b ∷ [])) → at + length x < length out

@@ -47,8 +47,8 @@ none_agree p q =
     let n : length q - 0 ≡ length q = omega arith in
     (omega arith, omega arith, rw (m, n, drop-length p, drop-length q))
 
-pub one_more : (p q : List ℕ) (k : ℕ) → k < length p → k < length q → get_or p (length p - k - 1) 0 ≡ get_or q (length q - k - 1) 0 → Agree p q k → Agree p q (k + 1)
-one_more p q k l m e a = (omega arith, omega arith, front p l ∙ (ap (λ (c : ℕ). c ∷ drop (length p - k) p) e ∙ ap (λ (r : List ℕ). get_or q (length q - k - 1) 0 ∷ r) a.2) ∙ sym (front q m))
+pub one_more_lem : (p q : List ℕ) (k : ℕ) → k < length p → k < length q → get_or p (length p - k - 1) 0 ≡ get_or q (length q - k - 1) 0 → Agree p q k → Agree p q (k + 1)
+one_more_lem p q k l m e a = (omega arith, omega arith, front p l ∙ (ap (λ (c : ℕ). c ∷ drop (length p - k) p) e ∙ ap (λ (r : List ℕ). get_or q (length q - k - 1) 0 ∷ r) a.2) ∙ sym (front q m))
   where
     front : (r : List ℕ) → k < length r → drop (length r - (k + 1)) r ≡ get_or r (length r - k - 1) 0 ∷ drop (length r - k) r
     front r h =

@@ -42,14 +42,14 @@ judged_numbered TooLong (Outside y) = refl
 judged_numbered TooLong NoLink = refl
 judged_numbered TooLong TooLong = refl
 
-by_number : (n : ℕ) (j : Join) (p q : List ℕ) → 1 ≤ n → route_by n j p q ≡ apart n
-by_number zero j p q h = absurd (omega arith)
-by_number (suc n) j p q h = refl
+by_number_lem : (n : ℕ) (j : Join) (p q : List ℕ) → 1 ≤ n → route_by n j p q ≡ apart n
+by_number_lem zero j p q h = absurd (omega arith)
+by_number_lem (suc n) j p q h = refl
 
 pub refused_apart : (d r : WalkEnd) (n : ℕ) (j : Join) (p q p' q' : List ℕ) → judged d r ≡ Apart n → route_by n j p q ≡ joined_by (judged d r) p' q'
 unfolding numbered
 refused_apart d r n j p q p' q' e =
-    rw e (by_number n j p q (leb-true 1 n (sym (ap numbered e) ∙ judged_numbered d r)))
+    rw e (by_number_lem n j p q (leb-true 1 n (sym (ap numbered e) ∙ judged_numbered d r)))
 
 -- ---- walks that do not meet
 pub unmet : (n : ℕ) (K : Lookups) (w v : Walk) → n ≤ 0 → MeetAt n K w v → shared K w v ≡ none

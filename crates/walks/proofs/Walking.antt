@@ -29,8 +29,8 @@ module _ (h : ℕ → Hop) (l : List ℕ) (left c : ℕ) where
 
   module _ (whole : length l ≡ side_limit) (g : left ≡ 0 → ⊥) (b : left ≤ side_limit) where
     -- one CSD more is named
-    one_more : take (side_limit - left + 1) (set l (side_limit - left) c) ≡ take (side_limit - left) l ++ (c ∷ [])
-    one_more =
+    one_more_lem : take (side_limit - left + 1) (set l (side_limit - left) c) ≡ take (side_limit - left) l ++ (c ∷ [])
+    one_more_lem =
         let k : side_limit - left < length l = omega (arith, g) in
         rw (add-one, take-suc-set l (side_limit - left) c k)
 
@@ -41,15 +41,15 @@ module _ (h : ℕ → Hop) (l : List ℕ) (left c : ℕ) where
     unfolding walk
     ends_here {e} q =
         let w : walk h left c ≡ record { end = e; path = c ∷ [] } = ap (λ k. walk h k c) less ∙ ended (left - 1) in
-        rw w (record { told = refl; path = one_more; same = length-set l (side_limit - left) c })
+        rw w (record { told = refl; path = one_more_lem; same = length-set l (side_limit - left) c })
       where
         ended : (k : ℕ) → walk h (suc k) c ≡ record { end = e; path = c ∷ [] }
         ended k = rw q
 
-    pub goes_on : {m : ℕ} (r : ℕ) (x : List ℕ) → h c ≡ On m → WalksOn (left - 1) (set l (side_limit - left) c) (walk h (left - 1) m) r x
+    pub goes_on_lem : {m : ℕ} (r : ℕ) (x : List ℕ) → h c ≡ On m → WalksOn (left - 1) (set l (side_limit - left) c) (walk h (left - 1) m) r x
         → WalksOn left l (walk h left c) r x
     unfolding walk
-    goes_on {m} r x q o =
+    goes_on_lem {m} r x q o =
         let w : walk h left c ≡ record { end = (walk h (left - 1) m).end; path = c ∷ (walk h (left - 1) m).path } = ap (λ k. walk h k c) less ∙ on (left - 1) in
         let n = length (walk h (left - 1) m).path in
         let f : side_limit - (left - 1) ≡ side_limit - left + 1 = omega (arith, g) in
@@ -57,7 +57,7 @@ module _ (h : ℕ → Hop) (l : List ℕ) (left c : ℕ) where
         rw w
         record {
           told = rw k at o.told;
-          path = rw (k, f, one_more, append_assoc) at o.path;
+          path = rw (k, f, one_more_lem, append_assoc) at o.path;
           same = o.same ∙ length-set l (side_limit - left) c;
         }
       where

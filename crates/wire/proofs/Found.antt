@@ -11,7 +11,7 @@ use lib.ListN.{length, get_or, take, drop, length-drop, drop_of_length-le}
 use lib.Seq.{drop-cons, drop-drop, length-take-le}
 use borrow.Author.Tests.{lt-ltb, le-ltb, ltb-false}
 use Rattle.rules.specs.Stream as Rules
-use Rattle.rules.specs.Stream.{next_of, by_width_lem, width_of, ended, unknown, cut, command}
+use Rattle.rules.specs.Stream.{next_of, by_width, width_of, ended, unknown, cut, command}
 use Rattle.wire.specs.declared.commands.Next.{Next}
 use Rattle.wire.specs.declared.commands.Next.TheVariants.{End, Unknown, Cut, Command}
 use Rattle.wire.specs.declared.commands.Width.TheVariants.{Bytes, NoCommand}
@@ -37,7 +37,7 @@ some_in (some v) w e = cc
 
 module _ (s : List ℕ) (at : ℕ) (h : at < length s) where
   -- the byte there, and the bytes behind it
-  byte_there : next_of (drop at s) ≡ by_width_lem (get_or s at 0) (drop (suc at) s) (width_of (get_or s at 0))
+  byte_there : next_of (drop at s) ≡ by_width (get_or s at 0) (drop (suc at) s) (width_of (get_or s at 0))
   unfolding next_of
   byte_there = rw (drop-cons s at 0 h)
 
@@ -94,7 +94,7 @@ pub record Stands (s : List ℕ) (at tag start end : ℕ) : Type 0 where
   pub finds : next_of (drop at s) ≡ command tag (take (end - start) (drop start s)) (drop end s)
 
 module _ (s : List ℕ) (at tag start end : ℕ) where
-  by_length : (t w : ℕ) (rest : List ℕ) → rest ≡ drop (suc at) s → at < length s → width_of t ≡ some w → next_of (drop at s) ≡ by_width_lem t rest (some w)
+  by_length : (t w : ℕ) (rest : List ℕ) → rest ≡ drop (suc at) s → at < length s → width_of t ≡ some w → next_of (drop at s) ≡ by_width t rest (some w)
       → (b : Bool) → ltb (length rest) w ≡ b → placed at (cond b cut (command t (take w rest) (drop w rest))) ≡ Command tag start end
       → Stands s at tag start end
   by_length t w rest q h k n true l e = never (cc)
@@ -116,17 +116,17 @@ module _ (s : List ℕ) (at tag start end : ℕ) where
         finds = cc (drop-drop w (suc at) s);
       }
 
-  by_width : (x : Option ℕ) → at < length s → width_of (get_or s at 0) ≡ x → next_at s at ≡ Command tag start end → Stands s at tag start end
-  by_width none h k e = let n : next_at s at ≡ Unknown = rw (byte_there s at h, k) in never (cc)
-  by_width (some w) h k e =
-      let n : next_of (drop at s) ≡ by_width_lem (get_or s at 0) (drop (suc at) s) (some w) = rw (byte_there s at h, k) in
+  by_width_lem : (x : Option ℕ) → at < length s → width_of (get_or s at 0) ≡ x → next_at s at ≡ Command tag start end → Stands s at tag start end
+  by_width_lem none h k e = let n : next_at s at ≡ Unknown = rw (byte_there s at h, k) in never (cc)
+  by_width_lem (some w) h k e =
+      let n : next_of (drop at s) ≡ by_width (get_or s at 0) (drop (suc at) s) (some w) = rw (byte_there s at h, k) in
       by_length (get_or s at 0) w (drop (suc at) s) refl h k n (ltb (length (drop (suc at) s)) w) refl (rw n at e)
 
   pub stands : next_at s at ≡ Command tag start end → Stands s at tag start end
   stands e = go (dec_lt at (length s))
     where
       go : Dec (at < length s) → Stands s at tag start end
-      go (yes h) = by_width (width_of (get_or s at 0)) h refl e
+      go (yes h) = by_width_lem (width_of (get_or s at 0)) h refl e
       go (no h) = let n : next_at s at ≡ End = finds_end s at (omega arith) in never (cc)
 
 -- the operands are as many as the command has

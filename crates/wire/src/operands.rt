@@ -1,7 +1,7 @@
 // Operands, "big-endian of fixed widths". A decoder is handed the part of the input that starts at its command's operands; a byte that the part
 // does not have reads as 0.
 ghost use Rattle.std.specs.Prelude.{◌≡◌, ◌+◌, ◌*◌, ◌^◌, ◌≤◌, ◌<◌, length, get_or};
-ghost use Rattle.rules.specs.Entries.{account_row, pair_row_lem, link_row};
+ghost use Rattle.rules.specs.Entries.{account_row, pair_row, link_row};
 ghost use Rattle.rules.specs.Stream.{number_at, account_at, pair_at, link_at, half_width, half_at, sided_half_at, ordered_day_at, sided_day_at};
 ghost use Rattle.wire.specs.Operands.{padded_at, csd_in, security_in, move_in, payment_in};
 
@@ -131,7 +131,7 @@ pub fn decode_account(operands: &[u8]) -> Account
 
 // "investor 1, technical 1, accounts 2 and 2", "served account last (2 bytes)"
 pub fn decode_pair(operands: &[u8]) -> Pair
-    ensures { pair_row_lem result ≡ pair_at operands.now }
+    ensures { pair_row result ≡ pair_at operands.now }
 {
     let investor = one_byte(operands, 0);
     let technical = one_byte(operands, 1);

@@ -1,7 +1,7 @@
 -- What each question to the two halves found.
 use borrow.Author.Rules.{rules}
-use Rattle.halves.proofs.in_order.Statement.{statement}
-use Rattle.halves.proofs.in_order.Tie as tie
+use Rattle.halves.proofs.in_order_lem.Statement.{statement}
+use Rattle.halves.proofs.in_order_lem.Tie as tie
 
 side-unknown-requires : tie.Need-side-unknown-requires
 side-unknown-requires c κs = search rules

@@ -4,7 +4,7 @@ use Prim.Native.Nat.{ℕ}
 use mathlib.Core.List.{List, map}
 use Rattle.rules.specs.Directory.{Rows, rows_of}
 use Rattle.rules.specs.Entries.{Row, link_row}
-use Rattle.reading.specs.Read.{in_order_lem, read_directory, kept}
+use Rattle.reading.specs.Read.{in_order, read_directory, kept}
 use Rattle.reading.proofs.Loops.{Left, from_securities, from_accounts, from_pairs, first_table, too_many, next_table, no_table, last_table}
 use Rattle.reading.proofs.read.Statement.{statement}
 use Rattle.reading.proofs.read.Tie as tie
@@ -29,7 +29,7 @@ start₅ c = start₄ c.before.before.before
 abbrev LeftAt : tie.Start → (Rows → List Row) → List ℕ → List ℕ → Type 0
 LeftAt s xs l b = Left (read_directory s.args.directory (kept s.args.index.now s.args.names.now)) (xs (rows_of s.args.directory)) (kept l b)
 
-after-limits : (c : tie.Else1) → let s = start₁ c in LeftAt s in_order_lem s.args.index.now s.args.names.now
+after-limits : (c : tie.Else1) → let s = start₁ c in LeftAt s in_order s.args.index.now s.args.names.now
 after-limits c =
     let a = (start₁ c).args in
     first_table a.directory a.index.now a.names.now c.before.within-limits.ensures c.if1.false

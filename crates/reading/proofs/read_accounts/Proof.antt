@@ -9,7 +9,7 @@ use Rattle.rules.specs.Directory.{account_rows, account_limit}
 use Rattle.rules.specs.Entries.{account_row, blank_account}
 use Rattle.index.proofs.Laws.{length_mapped}
 use Rattle.reading.specs.Read.{read_rows, kept}
-use Rattle.reading.proofs.Loops.{Ahead, all_read, stops, goes_on}
+use Rattle.reading.proofs.Loops.{Ahead, all_read, stops, goes_on_lem}
 use Rattle.reading.proofs.read_accounts.Statement.{statement}
 use Rattle.reading.proofs.read_accounts.Tie as tie
 
@@ -55,7 +55,7 @@ loop-again c b =
     let e = c.before.before in
     let l = e.before.before.before.before.before.before in
     let n : length l.before.args.t1.rows ≡ account_limit = search length_mapped in
-    goes_on (l.loop.invariant b) blank_account (omega arith) (omega arith) e.before.account-refusal.ensures e.if2.false
+    goes_on_lem (l.loop.invariant b) blank_account (omega arith) (omega arith) e.before.account-refusal.ensures e.if2.false
     c.add-account.ensures refl
 
 returns-3 : tie.Need-returns-3 invariant-loop decreases-loop

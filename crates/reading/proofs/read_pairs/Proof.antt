@@ -6,16 +6,16 @@ use mathlib.Core.List.{List, map}
 use lib.ListN.{length}
 use native.Mathlib.Omega.{arith}
 use Rattle.rules.specs.Directory.{pair_rows, pair_limit}
-use Rattle.rules.specs.Entries.{pair_row_lem, blank_pair}
+use Rattle.rules.specs.Entries.{pair_row, blank_pair}
 use Rattle.index.proofs.Laws.{length_mapped}
 use Rattle.reading.specs.Read.{read_rows, kept}
-use Rattle.reading.proofs.Loops.{Ahead, all_read, stops, goes_on}
+use Rattle.reading.proofs.Loops.{Ahead, all_read, stops, goes_on_lem}
 use Rattle.reading.proofs.read_pairs.Statement.{statement}
 use Rattle.reading.proofs.read_pairs.Tie as tie
 
 abbrev invariant-loop : tie.invariant-loop
 invariant-loop index₀ pairs i₀ index i =
-    (b : List ℕ) → Ahead pair_row_lem pairs.rows pairs.count (read_rows (map pair_row_lem (pair_rows pairs)) (kept index₀ b)) i index b
+    (b : List ℕ) → Ahead pair_row pairs.rows pairs.count (read_rows (map pair_row (pair_rows pairs)) (kept index₀ b)) i index b
 
 abbrev decreases-loop : tie.decreases-loop
 decreases-loop index₀ pairs i₀ index i = pair_limit - i
@@ -55,7 +55,7 @@ loop-again c b =
     let e = c.before.before in
     let l = e.before.before.before.before.before.before in
     let n : length l.before.args.t1.rows ≡ pair_limit = search length_mapped in
-    goes_on (l.loop.invariant b) blank_pair (omega arith) (omega arith) e.before.pair-refusal.ensures e.if2.false
+    goes_on_lem (l.loop.invariant b) blank_pair (omega arith) (omega arith) e.before.pair-refusal.ensures e.if2.false
     c.add-pair.ensures refl
 
 returns-3 : tie.Need-returns-3 invariant-loop decreases-loop

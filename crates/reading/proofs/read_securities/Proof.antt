@@ -9,7 +9,7 @@ use Rattle.rules.specs.Directory.{security_rows, security_limit}
 use Rattle.rules.specs.Entries.{security_row}
 use Rattle.index.proofs.Laws.{length_mapped}
 use Rattle.reading.specs.Read.{read_rows, kept}
-use Rattle.reading.proofs.Loops.{Ahead, all_read, stops, goes_on}
+use Rattle.reading.proofs.Loops.{Ahead, all_read, stops, goes_on_lem}
 use Rattle.reading.proofs.read_securities.Statement.{statement}
 use Rattle.reading.proofs.read_securities.Tie as tie
 
@@ -55,7 +55,7 @@ loop-again c =
     let e = c.before.before.before in
     let l = e.before.before.before.before.before.before.before in
     let n : length l.before.args.t1.rows ≡ security_limit = search length_mapped in
-    goes_on l.loop.invariant (record { isin = [] }) (omega arith) (omega arith) e.before.security-refusal.ensures e.if2.false
+    goes_on_lem l.loop.invariant (record { isin = [] }) (omega arith) (omega arith) e.before.security-refusal.ensures e.if2.false
     c.add-security.ensures.0 c.add-security.ensures.1
 
 returns-3 : tie.Need-returns-3 invariant-loop decreases-loop

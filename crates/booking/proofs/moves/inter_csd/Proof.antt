@@ -1,7 +1,7 @@
 -- Whether the technical issuer is outside, and the pair for it, as each look-up found them.
 use borrow.Author.Rules.{rules}
 use mathlib.Core.Path.{sym, ◌∙◌}
-use Rattle.index.proofs.Found.{pair_row, pair_missing}
+use Rattle.index.proofs.Found.{pair_row_lem, pair_missing}
 use Rattle.booking.specs.Moves.{contra_found}
 use Rattle.booking.proofs.moves.inter_csd.Statement.{statement}
 use Rattle.booking.proofs.moves.inter_csd.Tie as tie
@@ -24,7 +24,7 @@ returns c =
     let outside = c.before.before.before.before in
     rw (
       sym outside.before.is_external.ensures ∙ outside.if1.true,
-      pair_row _ _ (sym c.before.before.before.pair_of.ensures ∙ c.before.pair.given.1),
+      pair_row_lem _ _ (sym c.before.before.before.pair_of.ensures ∙ c.before.pair.given.1),
     )
 
 returns-2 : tie.Need-returns-2

@@ -12,13 +12,13 @@ derived-requires : tie.Need-derived-requires
 derived-requires c κs =
     let x = c in
     let a = x.before.args in
-    (sided a.first a.second, handed_in_order (sided a.first a.second) x.in_order.result x.in_order.ensures)
+    (sided a.first a.second, handed_in_order (sided a.first a.second) x.in_order_lem.result x.in_order_lem.ensures)
 
 returns : tie.Need-returns
 returns c =
     let x = c.before in
     let a = x.before.args in
-    c.derived.ensures (sided a.first a.second) (handed_in_order (sided a.first a.second) x.in_order.result x.in_order.ensures)
+    c.derived.ensures (sided a.first a.second) (handed_in_order (sided a.first a.second) x.in_order_lem.result x.in_order_lem.ensures)
 
 pub derive-sided-reply-spec : {M : Type 1} → statement M
 derive-sided-reply-spec = tie.close (tie.spec in-order-requires derived-requires returns)

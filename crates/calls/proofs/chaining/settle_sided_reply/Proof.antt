@@ -12,7 +12,7 @@ settled-requires : tie.Need-settled-requires
 settled-requires c κs =
     let x = c.before.before in
     let a = x.before.args in
-    (sided a.first a.second, handed_in_order (sided a.first a.second) x.in_order.result x.in_order.ensures)
+    (sided a.first a.second, handed_in_order (sided a.first a.second) x.in_order_lem.result x.in_order_lem.ensures)
 
 same_length : tie.Need-same-length
 same_length c = search rules
@@ -24,7 +24,7 @@ returns : tie.Need-returns
 returns c =
     let x = c.before.before.before.before.before in
     let a = x.before.args in
-    c.before.before.settled.ensures (sided a.first a.second) (handed_in_order (sided a.first a.second) x.in_order.result x.in_order.ensures)
+    c.before.before.settled.ensures (sided a.first a.second) (handed_in_order (sided a.first a.second) x.in_order_lem.result x.in_order_lem.ensures)
 
 pub settle-sided-reply-spec : {M : Type 1} → statement M
 settle-sided-reply-spec =

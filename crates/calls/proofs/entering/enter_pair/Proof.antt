@@ -1,7 +1,7 @@
 -- 4 on an unsound directory; else the row's refusal, or the row is added.
 use borrow.Author.Rules.{rules}
 use mathlib.Core.Path.{◌∙◌}
-use Rattle.rules.specs.Entries.{pair_row_lem}
+use Rattle.rules.specs.Entries.{pair_row}
 use Rattle.calls.proofs.Admitted.{nothing_kept_lem}
 use Rattle.calls.proofs.Entries.{unsound, refuses, roomy, accepts}
 use Rattle.calls.proofs.entering.enter_pair.Statement.{statement}
@@ -17,7 +17,7 @@ returns : tie.Need-returns
 returns c =
     let e = c.before in
     let a = e.before.before.before.before.args in
-    c.entry_refused.ensures ∙ unsound a.directory (pair_row_lem a.row) _ _ e.before.early-refusal.ensures e.if1.true
+    c.entry_refused.ensures ∙ unsound a.directory (pair_row a.row) _ _ e.before.early-refusal.ensures e.if1.true
 
 pair-refusal-requires : tie.Need-pair-refusal-requires
 pair-refusal-requires c κs = search rules
@@ -31,14 +31,14 @@ returns-2 c =
     let e = m.before.before in
     let a = e.before.before.before.before.args in
     c.entry-refused2.ensures
-    ∙ refuses a.directory (pair_row_lem a.row) _ _ e.before.early-refusal.ensures e.if1.false _ m.pair-refusal.ensures c.before.if2.true
+    ∙ refuses a.directory (pair_row a.row) _ _ e.before.early-refusal.ensures e.if1.false _ m.pair-refusal.ensures c.before.if2.true
 
 with-pair-requires : tie.Need-with-pair-requires
 with-pair-requires c κs =
     let m = c.before in
     let e = m.before.before in
     let a = e.before.before.before.before.args in
-    roomy a.directory (pair_row_lem a.row) _ _ e.before.early-refusal.ensures e.if1.false _ m.pair-refusal.ensures c.if2.false
+    roomy a.directory (pair_row a.row) _ _ e.before.early-refusal.ensures e.if1.false _ m.pair-refusal.ensures c.if2.false
 
 entry-accepted-requires : tie.Need-entry-accepted-requires
 entry-accepted-requires c κs = search rules
@@ -50,7 +50,7 @@ returns-3 c =
     let a = e.before.before.before.before.args in
     c.entry_accepted.ensures
     ∙ rw c.before.with_pair.ensures
-    (accepts a.directory (pair_row_lem a.row) _ _ e.before.early-refusal.ensures e.if1.false _ m.pair-refusal.ensures c.before.before.if2.false)
+    (accepts a.directory (pair_row a.row) _ _ e.before.early-refusal.ensures e.if1.false _ m.pair-refusal.ensures c.before.before.if2.false)
 
 pub enter-pair-spec : {M : Type 1} → statement M
 enter-pair-spec =

@@ -9,9 +9,9 @@ use mir.Val.{Fits}
 use borrow.Author.Rules.{rules}
 use Rattle.rules.specs.Walks.{side_limit}
 use Rattle.index.specs.Asked.{asked}
-use Rattle.index.proofs.Found.{pair_row, pair_missing}
+use Rattle.index.proofs.Found.{pair_row_lem, pair_missing}
 use Rattle.chain.specs.StepList.{step_numbers, steps_in}
-use Rattle.chain.proofs.StepList.{steps_none, length_step, one_more}
+use Rattle.chain.proofs.StepList.{steps_none, length_step, one_more_lem}
 use Rattle.chain.proofs.Climbing.{Climbs, climb_starts, climb_ends, climb_fails, climb_goes_on}
 use Rattle.chain.proofs.steps.climb_side.Statement.{statement}
 use Rattle.chain.proofs.steps.climb_side.Tie as tie
@@ -86,12 +86,12 @@ loop-again c =
     let steps = steps_in l.steps l.i in
     let named : length a.csds.now ≡ side_limit = search rules in
     let byte : Fits w8 (get_or a.csds.now l.i 0) = c.before.before.before.before.before.before.before.shared-slice-known2.given l.i in
-    let row = pair_row _ _ (sym c.before.before.before.before.before.pair_of.ensures ∙ c.before.before.before.pair.given.1) in
+    let row = pair_row_lem _ _ (sym c.before.before.before.before.before.pair_of.ensures ∙ c.before.before.before.pair.given.1) in
     let put = c.put_step.ensures in (
       omega arith,
       ap length put ∙ (length_step l.steps l.i _ ∙ l.invariant.1),
       climb_goes_on (asked a.index.now) a.csds.now a.count a.account l.i steps l.at l.invariant.2 (omega arith) (omega arith) _ _ row
-          (ap (λ (k : List ℕ). steps_in k (l.i + 1)) put ∙ one_more l.steps l.i _ l.invariant.1 (omega arith) (omega arith)),
+          (ap (λ (k : List ℕ). steps_in k (l.i + 1)) put ∙ one_more_lem l.steps l.i _ l.invariant.1 (omega arith) (omega arith)),
     )
 
 returns-3 : tie.Need-returns-3 invariant-loop decreases-loop

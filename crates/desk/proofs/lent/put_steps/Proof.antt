@@ -78,8 +78,8 @@ fails : (t : Bool) → (T t → ⊥) → t ≡ false
 fails true f = absurd (f tt)
 fails false _ = refl
 
-one_more : (i : ℕ) → i + 1 ≡ suc i
-one_more i = add-suc i zero ∙ ap suc (add-zero i)
+one_more_lem : (i : ℕ) → i + 1 ≡ suc i
+one_more_lem i = add-suc i zero ∙ ap suc (add-zero i)
 
 -- ---- the types of the locals
 -- ---- spelled as `code.function` has them, so that antt compares them by their text
@@ -228,7 +228,7 @@ module _ {M : Type 1} {𝓤 : Ura M} (𝓛 : Logic 𝓤) (mem : Memory → SProp
         move ! (1 ∷ []) $ drop ! $ owned ! T.the_row (Is T.the_row) ((LL.makes T.the_type T'.the_plain) 𝓛) (step_in c i) _ is-step $ move ! (1 ∷ 0 ∷ []) $ elem_put ! T.the_row full_share (at i) i (step_in c i) (w ∷ []) b o (within i small) $
         assigns_last ! (bin ! (load ! (from ! (stop !)) (look ! 12 refl)) (lit ! tt) (record { fits = next_fits i small })) (from ! (stop !)) (store ! 12 refl (tt, record { fits = next_fits i small })) $
         forget ! 4 refl $ forget ! 6 refl $ forget ! 8 refl $ forget ! 10 refl $
-        rewrite ! 12 (λ (j : ℕ). ‵ (fat full_share word l₄ 0 (vint w64 j))) (one_more i) refl $ by ! next)))))
+        rewrite ! 12 (λ (j : ℕ). ‵ (fat full_share word l₄ 0 (vint w64 j))) (one_more_lem i) refl $ by ! next)))))
 
     -- the turn that leaves the loop, and the rest of the body: the borrow is closed
     ends : (X : SProp 𝓤) → ent 𝓤 (⋆ 𝓛 (At k)) (Wp 𝓤 H C Λ En mir'.turn-1 (after_turn 𝓤 H X Left))

@@ -52,7 +52,7 @@ returns-2 c =
     let mirror = omnibus.before.before in
     let test = mirror.before.before.before in
     rw (ne_eqb test.before.args.account no_account test.if1.false)
-    (c.store4.ensures ∙ rw (investor.store3.ensures, omnibus.store2.ensures, mirror.store.ensures, mirror.before.one_more.ensures))
+    (c.store4.ensures ∙ rw (investor.store3.ensures, omnibus.store2.ensures, mirror.store.ensures, mirror.before.one_more_lem.ensures))
 
 pub add-duo-spec : {M : Type 1} → statement M
 add-duo-spec =

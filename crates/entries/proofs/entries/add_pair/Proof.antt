@@ -41,7 +41,7 @@ returns c =
     let second = c.before.before in
     let first = second.before.before in
     let served = first.before.before in
-    c.count-on.ensures ∙ rw (second.add-duo2.ensures, first.add-duo.ensures, served.store.ensures, served.before.one_more.ensures)
+    c.count-on.ensures ∙ rw (second.add-duo2.ensures, first.add-duo.ensures, served.store.ensures, served.before.one_more_lem.ensures)
 
 pub add-pair-spec : {M : Type 1} → statement M
 add-pair-spec =

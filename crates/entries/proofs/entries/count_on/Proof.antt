@@ -14,7 +14,7 @@ store-requires : tie.Need-store-requires
 store-requires c κs = search rules
 
 returns : tie.Need-returns
-returns c = c.store.ensures ∙ rw (c.before.one_more.ensures, c.before.before.before.entry.ensures)
+returns c = c.store.ensures ∙ rw (c.before.one_more_lem.ensures, c.before.before.before.entry.ensures)
 
 pub count-on-spec : {M : Type 1} → statement M
 count-on-spec = tie.close (tie.spec entry-requires one-more-requires store-requires returns)

@@ -1,8 +1,8 @@
 -- The largest u16 stays as it is.
 use borrow.Author.Tests.{lt-ltb, le-ltb}
 use borrow.Author.Rules.{rules}
-use Rattle.entries.proofs.entries.one_more.Statement.{statement}
-use Rattle.entries.proofs.entries.one_more.Tie as tie
+use Rattle.entries.proofs.entries.one_more_lem.Statement.{statement}
+use Rattle.entries.proofs.entries.one_more_lem.Tie as tie
 
 add-result : tie.Need-overflow-add-result
 add-result c = search rules

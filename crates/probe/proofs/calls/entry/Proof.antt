@@ -8,7 +8,7 @@ use Rattle.rules.specs.Calls.{enter}
 use Rattle.rules.specs.Stream.{call_of}
 use Rattle.wire.proofs.Decoded.{csd_call, security_call, account_call, pair_call, link_call}
 use Rattle.probe.proofs.Read.{entry_tag}
-use Rattle.probe.proofs.Moves.{entered_by}
+use Rattle.probe.proofs.Moves.{entered_by_lem}
 use borrow.Author.Rules.{rules}
 use Rattle.probe.proofs.calls.entry.Statement.{statement}
 use Rattle.probe.proofs.calls.entry.Tie as tie
@@ -23,7 +23,7 @@ returns : tie.Need-returns
 returns c =
     let s = c.before.before.before.before in
     let a = s.args in
-    entered_by a.directory (call_of a.tag a.operands.now) _ (ap (λ (y : Csd). enter (csd_row y)) c.before.decode-csd.ensures ∙ sym (csd_call a.tag a.operands.now (omega arith) s.requires.1)) c.enter-csd.result c.enter-csd.ensures
+    entered_by_lem a.directory (call_of a.tag a.operands.now) _ (ap (λ (y : Csd). enter (csd_row y)) c.before.decode-csd.ensures ∙ sym (csd_call a.tag a.operands.now (omega arith) s.requires.1)) c.enter-csd.result c.enter-csd.ensures
 
 decode-security-requires : tie.Need-decode-security-requires
 decode-security-requires c κs = search rules
@@ -35,7 +35,7 @@ returns-2 : tie.Need-returns-2
 returns-2 c =
     let s = c.before.before.before.before.before in
     let a = s.args in
-    entered_by a.directory (call_of a.tag a.operands.now) _ (ap (λ (y : Security). enter (security_row y)) c.before.decode-security.ensures ∙ sym (security_call a.tag a.operands.now (omega arith) s.requires.1)) c.enter-security.result c.enter-security.ensures
+    entered_by_lem a.directory (call_of a.tag a.operands.now) _ (ap (λ (y : Security). enter (security_row y)) c.before.decode-security.ensures ∙ sym (security_call a.tag a.operands.now (omega arith) s.requires.1)) c.enter-security.result c.enter-security.ensures
 
 decode-account-requires : tie.Need-decode-account-requires
 decode-account-requires c κs = search rules
@@ -47,7 +47,7 @@ returns-3 : tie.Need-returns-3
 returns-3 c =
     let s = c.before.before.before.before.before.before in
     let a = s.args in
-    entered_by a.directory (call_of a.tag a.operands.now) _ (ap enter c.before.decode-account.ensures ∙ sym (account_call a.tag a.operands.now (omega arith))) c.enter-account.result c.enter-account.ensures
+    entered_by_lem a.directory (call_of a.tag a.operands.now) _ (ap enter c.before.decode-account.ensures ∙ sym (account_call a.tag a.operands.now (omega arith))) c.enter-account.result c.enter-account.ensures
 
 decode-pair-requires : tie.Need-decode-pair-requires
 decode-pair-requires c κs = search rules
@@ -59,7 +59,7 @@ returns-4 : tie.Need-returns-4
 returns-4 c =
     let s = c.before.before.before.before.before.before.before in
     let a = s.args in
-    entered_by a.directory (call_of a.tag a.operands.now) _ (ap enter c.before.decode-pair.ensures ∙ sym (pair_call a.tag a.operands.now (omega arith))) c.enter-pair.result c.enter-pair.ensures
+    entered_by_lem a.directory (call_of a.tag a.operands.now) _ (ap enter c.before.decode-pair.ensures ∙ sym (pair_call a.tag a.operands.now (omega arith))) c.enter-pair.result c.enter-pair.ensures
 
 decode-link-requires : tie.Need-decode-link-requires
 decode-link-requires c κs = search rules
@@ -72,7 +72,7 @@ returns-5 c =
     let s = c.before.before.before.before.before.before.before in
     let a = s.args in
     let last : a.tag ≡ 5 = entry_tag a.tag s.requires.0 (λ l h. omega arith) (λ k. k) (λ k. omega arith) in
-    entered_by a.directory (call_of a.tag a.operands.now) _ (ap enter c.before.decode-link.ensures ∙ sym (link_call a.tag a.operands.now last)) c.enter-link.result c.enter-link.ensures
+    entered_by_lem a.directory (call_of a.tag a.operands.now) _ (ap enter c.before.decode-link.ensures ∙ sym (link_call a.tag a.operands.now last)) c.enter-link.result c.enter-link.ensures
 
 pub entry_spec : {M : Type 1} → statement M
 entry_spec =

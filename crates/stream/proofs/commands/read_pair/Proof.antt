@@ -29,7 +29,7 @@ returns-2 : tie.Need-returns-2
 returns-2 c =
     let y = c.before.decode-second in
     let x = c.before.before.decode-first in
-    rw (le-ltb _ _ c.before.before.before.if1.false) (rw (x.ensures, y.ensures) at c.in_order.ensures)
+    rw (le-ltb _ _ c.before.before.before.if1.false) (rw (x.ensures, y.ensures) at c.in_order_lem.ensures)
 
 pub read-pair-spec : {M : Type 1} → statement M
 read-pair-spec =

@@ -7,7 +7,7 @@ use borrow.Author.Rules.{rules}
 use Rattle.rules.specs.Walks.{side_limit}
 use Rattle.walks.specs.declared.sides.Side.{Side}
 use Rattle.walks.specs.Sides.{named}
-use Rattle.walks.proofs.Paths.{Agree, take_named, named_at, none_agree, one_more, no_more}
+use Rattle.walks.proofs.Paths.{Agree, take_named, named_at, none_agree, one_more_lem, no_more}
 use Rattle.walks.proofs.routes.common_end.Statement.{statement}
 use Rattle.walks.proofs.routes.common_end.Tie as tie
 
@@ -103,7 +103,7 @@ loop-again c =
     let x = named_at d.csds d.count m.result l.loop.k m.ensures (omega arith) in
     let y = named_at r.csds r.count n.result l.loop.k n.ensures (omega arith) in
     rw (whole d m.result m.ensures, whole r n.result n.ensures)
-    (one_more (named d) (named r) l.loop.k (omega arith) (omega arith) (x ∙ (c.if2.false ∙ sym y)) inv)
+    (one_more_lem (named d) (named r) l.loop.k (omega arith) (omega arith) (x ∙ (c.if2.false ∙ sym y)) inv)
 
 returns-3 : tie.Need-returns-3 invariant-loop decreases-loop
 returns-3 c =

@@ -9,7 +9,7 @@ use borrow.Fn.PlainCycle.{Measures, is, falls, and}
 use Rattle.rules.specs.Walks.{side_limit}
 use Rattle.index.specs.Asked.{asked_on}
 use Rattle.walks.specs.Walks.{hop_of}
-use Rattle.walks.proofs.Walking.{none_left, ends_here, goes_on}
+use Rattle.walks.proofs.Walking.{none_left, ends_here, goes_on_lem}
 use Rattle.walks.proofs.walks.walk_from.Reads as reads
 use Rattle.walks.proofs.walks.walk_from.Kinds as kinds
 use Rattle.walks.proofs.walks.+walk_from.Lts-walk_from as lts
@@ -95,7 +95,7 @@ returns-3 t c =
     let few : a.left ≤ side_limit = search rules in
     let behind : a.named ≡ side_limit - a.left = search rules in
     let rest = c.walk-from in
-    goes_on (hop_of (asked_on a.index.now a.day) a.security a.directed a.target) a.csds.now a.left a.csd whole c.before.before.before.before.before.before.if1.false few rest.result _
+    goes_on_lem (hop_of (asked_on a.index.now a.day) a.security a.directed a.target) a.csds.now a.left a.csd whole c.before.before.before.before.before.before.if1.false few rest.result _
     (sym c.before.before.before.before.before.hop-at.ensures ∙ c.before.before.before.next.given.1) (rw behind at rest.ensures)
 
 pub +walk-from-spec : {M : Type 1} → statement M
