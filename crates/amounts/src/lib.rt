@@ -1,5 +1,7 @@
 // Signed numbers held against a count, and against ±10^15 once the count is added or taken. No sum of the two is made for that, so that every answer holds
 // for every i64 and every u64.
+#![tactic(auto)]
+
 ghost use Rattle.std.specs.Prelude.{◌≡◌, ◌+◌, ◌-◌, ltb, pos, neg_ℤ, nat_abs, ◌+ℤ◌};
 ghost use Rattle.std.specs.Int.Signed.{lt_z};
 ghost use Rattle.rules.specs.Booking.{limit, beyond};

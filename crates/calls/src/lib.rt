@@ -1,6 +1,7 @@
 // The calls over a directory by value and lent lists of any length and content: 3, then 4, for which the directory is read into an index, then the very
 // function that a stream calls. Each answers what the rules' call answers on what it is handed. Where that is Refused, nothing lent or handed in has
 // changed.
+#![tactic(auto)]
 
 mod blank; // blank.rt: the empty directory
 mod entering; // entering.rt: the five entries, each adding its row to its table

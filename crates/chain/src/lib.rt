@@ -1,4 +1,5 @@
 // The chain of document 01 over the index of a directory: its steps with accounts, and the derivation.
+#![tactic(auto)]
 
 pub mod step_list; // step_list.rt: the steps of a chain as numbers in a lent list
 pub mod steps; // steps.rt: the steps along a route

@@ -1,5 +1,7 @@
 // Document 01's chains by example, by the desk's functions alone. A drawing has a link for each three bytes: `A>C` is a default link, `A~B` an
 // alternative, `I=I` an issuer.
+#![tactic(auto)]
+
 use desk::empty;
 use examples::{
     DAY, after, csd, link, pair, put, put_number, put_numbers, with_account, with_csd, with_link,

@@ -1,4 +1,6 @@
 // An export's command byte and operands judged, and a desk's answer as a number: 256 for each kind before it, and what it carries, at most 255.
+#![tactic(auto)]
+
 ghost use Rattle.std.specs.Prelude.{◌≡◌, ◌<◌};
 ghost use Rattle.rules.specs.Tests.{first_of};
 ghost use Rattle.rules.specs.Calls.{is_accepted};

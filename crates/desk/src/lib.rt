@@ -1,5 +1,6 @@
 // The functions that others call. The calls themselves stand in `calls`, their steps by value; here derivation and settlement also write them to a lent
 // list. Each answers what the rules' call answers on what it is handed. Where that is Refused, nothing lent or handed in has changed.
+#![tactic(auto)]
 
 mod lent; // lent.rt: derivation and settlement, with their steps in a lent list
 

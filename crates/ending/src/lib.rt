@@ -1,4 +1,6 @@
 // What document 01 has "At the end": a total for each security, and the cash.
+#![tactic(auto)]
+
 ghost use Rattle.std.specs.Prelude.{◌≡◌};
 ghost use Rattle.index.specs.Asked.{asked};
 ghost use Rattle.refusals.specs.Kept.{kept_in};

@@ -1,4 +1,5 @@
 // What the example programs share: words, numbers, steps and answers printed, a directory with one row more, and one that is entered row by row.
+#![tactic(auto)]
 
 mod printing; // printing.rt: words, numbers, steps and answers on standard output
 mod entering; // entering.rt: rows, and a directory with one of them entered

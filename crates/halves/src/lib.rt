@@ -1,4 +1,6 @@
 // Two halves of an instruction: put in order where they have their sides, and what refuses them before a chain is looked for.
+#![tactic(auto)]
+
 ghost use Rattle.std.specs.Prelude.{◌≡◌, true, false, eqb};
 ghost use Rattle.rules.specs.Tests.{first_of};
 ghost use Rattle.rules.specs.Calls.{sided, delivering_side, delivering, receiving, side_unknown, same_side};

@@ -1,5 +1,6 @@
 // What is held, over an index: positions and cash read, judged and totalled. Lent lists may have any length and content: a place behind the end reads 0.
 // No list is changed.
+#![tactic(auto)]
 
 pub(crate) mod numbers; // numbers.rt: one number of a list, read
 pub mod positions; // positions.rt: units of securities, read

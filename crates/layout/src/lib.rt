@@ -1,5 +1,7 @@
 // The directory as five counts and the bytes of all rows, in use or not: CSDs, securities, accounts, pairs, links. A row has the bytes of
 // the command that enters it.
+#![tactic(auto)]
+
 ghost use Rattle.std.specs.Prelude.{◌≡◌, ◌+◌, ◌*◌, ◌<◌, ◌≤◌, ◌/◌, ◌%◌, min, length, get_or};
 ghost use Rattle.rules.specs.Chain.{step_limit};
 ghost use Rattle.rules.specs.Outcomes.{step_rows};

@@ -1,5 +1,7 @@
 // Derivation and settlement in a lent list of steps that is longer than any chain and full of other numbers. After each call the steps behind the K that
 // it writes, or all of them where it refuses, are held against what they were. The list is filled anew for each call.
+#![tactic(auto)]
+
 ghost use Rattle.std.specs.Prelude.{◌≡◌, ◌≤◌, take, drop};
 ghost use Rattle.rules.specs.Calls.{ordered, sided};
 ghost use Rattle.rules.specs.Outcomes.{derivation_on, settlement_on};

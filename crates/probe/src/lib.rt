@@ -1,4 +1,5 @@
 // The desk's functions over bytes and numbers, for a program in another language to hold them against its own. Any directory can be
 // handed in, sound or not, and lists of any length.
+#![tactic(auto)]
 
 pub mod calls; // calls.rt: the calls, and their answers as numbers

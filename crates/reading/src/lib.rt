@@ -1,4 +1,6 @@
 // A directory read into an index: each row is judged and added as an entry is, in the order of soundness. Where a row is refused the directory is not sound.
+#![tactic(auto)]
+
 ghost use Rattle.std.specs.Prelude.{◌≡◌, map};
 ghost use Rattle.rules.specs.Directory.{csd_rows, security_rows, account_rows, pair_rows, link_rows};
 ghost use Rattle.rules.specs.Entries.{csd_row, security_row, account_row, pair_row, link_row, within_limits};

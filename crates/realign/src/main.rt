@@ -1,5 +1,7 @@
 // Reads commands from standard input, and writes their transcript to standard output. One byte more than the limit is read, so that a longer input
 // is told from one that fits. What could not be read is not run, and what failed is said in a line on standard error.
+#![tactic(auto)]
+
 use descriptors::input::{Input, read_input};
 use descriptors::output::write_whole;
 

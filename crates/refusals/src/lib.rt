@@ -1,4 +1,6 @@
 // Whether a row may be entered after the rows before it: the refusals 5 to 11 and 24 of the documents, the first that applies, 0 for none.
+#![tactic(auto)]
+
 ghost use Rattle.std.specs.Prelude.{◌≡◌, cond, eqb};
 ghost use Rattle.rules.specs.Entries.{second_unknown, wrong_accounts, wrong_served, pair_unknown, sharing, pair_entered};
 ghost use Rattle.rules.specs.Entries.{technical_unknown, account_unknown, link_unknown};

@@ -1,5 +1,7 @@
 // A whole command stream into its whole text, as document 01's "Commands and program" has it. A stream's store starts empty and is changed by calls
 // alone, so that its directory is sound, and no number of it is beyond ±10^15. Of the directory its index and its identifiers are kept.
+#![tactic(auto)]
+
 ghost use Rattle.rules.specs.Stream.{transcript};
 ghost use Rattle.rules.specs.Stream.{Printed};
 

@@ -1,5 +1,6 @@
 // The command stream: what stands at a place of the input, and each command's operands.
 // Every public function is total: it answers at any place of any bytes.
+#![tactic(auto)]
 
 pub mod operands; // operands.rt: the decoders, each handed the part of the input that starts at its operands
 pub mod commands; // commands.rt: the widths of the commands, and the command at a place

@@ -1,4 +1,6 @@
 // Document 01's worked example by the desk's functions alone: entered, booked, and taken back by the opposite pair.
+#![tactic(auto)]
+
 use desk::empty;
 use examples::{DAY, csd, link, pair, put, put_number, put_signed, put_step};
 use rules::{
