@@ -15,7 +15,7 @@ use index::places::INDEX;
 use rules::{Answer, PARTICIPANT, Step};
 
 // The account on the other side, if there is one.
-#[derive(Drop)]
+#[derive(Clone, Copy)]
 pub enum Contra {
     At(u16),
     Missing,

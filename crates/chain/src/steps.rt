@@ -17,7 +17,7 @@ use walks::routes::RouteFound;
 use walks::sides::last_of;
 
 // One side climbed: whether every pair is entered, how many steps were put, and the account that stands for the side in its last CSD.
-#[derive(Drop)]
+#[derive(Clone, Copy)]
 pub struct Reached {
     pub paired: bool,
     pub count: usize,
@@ -25,7 +25,7 @@ pub struct Reached {
 }
 
 // The number that refuses a chain, 0 where there is one, and how many steps it has.
-#[derive(Drop)]
+#[derive(Clone, Copy)]
 pub struct Found {
     pub refusal: u8,
     pub count: usize,

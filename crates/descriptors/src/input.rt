@@ -5,7 +5,7 @@ ghost use Rattle.descriptors.specs.Transfers.{Room, Held};
 use crate::transfers::{INTERRUPTIONS, Transfer, transfer_of};
 
 // How many bytes there are, or that they could not be read: then nothing is known of what is missing, and what came is not to be used.
-#[derive(Drop)]
+#[derive(Clone, Copy)]
 pub enum Input {
     Whole(usize),
     Unread,

@@ -6,7 +6,7 @@ ghost use Rattle.descriptors.specs.Transfers.{transfer_of};
 pub const INTERRUPTIONS: usize = 1_000_000;
 
 // A call moved bytes, at least one; it moved none, which is the end of an input; a signal interrupted it before it moved any; or it failed.
-#[derive(Drop)]
+#[derive(Clone, Copy)]
 pub enum Transfer {
     Bytes(usize),
     Nothing,

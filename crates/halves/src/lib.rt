@@ -13,7 +13,7 @@ use index::places::INDEX;
 use rules::{DELIVERING, Half, LIMIT, PARTICIPANT, RECEIVING, SidedHalf};
 
 // Two halves in order, and what is asked of their sides: whether one is unknown, and whether both are the same.
-#[derive(Drop)]
+#[derive(Clone, Copy)]
 pub struct InOrder {
     pub delivering: Half,
     pub receiving: Half,

@@ -17,7 +17,7 @@ use rules::{LIMIT, OMNIBUS, PARTICIPANT, STEPS, Step};
 const MOST: i64 = LIMIT as i64;
 
 // Whether units are short (20), and whether a changed position ends beyond ±10^15 (22).
-#[derive(Drop)]
+#[derive(Clone, Copy)]
 pub struct Judged {
     pub short: bool,
     pub beyond: bool,

@@ -7,7 +7,7 @@ use crate::forms::is_capital;
 use rules::ISIN;
 
 // The sum of the digits read so far, as it is if the digit read last is doubled, and if it is not.
-#[derive(Drop)]
+#[derive(Clone, Copy)]
 struct Sums {
     last: u64,
     other: u64,

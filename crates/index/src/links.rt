@@ -13,7 +13,7 @@ use crate::places::{
 use rules::{CSDS, Link, NO_ACCOUNT, SECURITIES};
 
 // Where a CSD's links for a security lead by default: nowhere further for an issuer, else to a technical issuer, if there is a default link.
-#[derive(Drop)]
+#[derive(Clone, Copy)]
 pub enum Leading {
     Issuer,
     To(u8),
@@ -21,7 +21,7 @@ pub enum Leading {
 }
 
 // What is looked for among the links.
-#[derive(Drop)]
+#[derive(Clone, Copy)]
 pub enum Wanted {
     Any,
     Issuers,

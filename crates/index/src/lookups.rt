@@ -14,7 +14,7 @@ use crate::places::{
 use rules::{ACCOUNTS, CSDS, LINKS, PAIRS, Pair};
 
 // A pair's row, if there is one.
-#[derive(Drop)]
+#[derive(Clone, Copy)]
 pub enum PairFound {
     Row(Pair),
     Missing,

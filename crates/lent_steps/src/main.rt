@@ -14,7 +14,7 @@ use rules::{ACCOUNTS, Answer, Directory, Half, POSITIONS, STEPS, SidedHalf, Step
 const LIST: usize = 20;
 
 // What a call answered, and the list after it.
-#[derive(Drop)]
+#[derive(Clone, Copy)]
 struct Back {
     answer: Answer,
     steps: [Step; LIST],

@@ -36,13 +36,13 @@ pub const POSITIONS: usize = ACCOUNTS * SECURITIES;
 pub const LIMIT: u64 = 1_000_000_000_000_000;
 
 // A central securities depository: 0 in T2S, 1 external, and its BIC.
-#[derive(Drop)]
+#[derive(Clone, Copy)]
 pub struct Csd {
     pub external: u8,
     pub bic: [u8; BIC],
 }
 
-#[derive(Drop)]
+#[derive(Clone, Copy)]
 pub struct Security {
     pub isin: [u8; ISIN],
 }
@@ -59,7 +59,7 @@ pub const INTER_CSD: u8 = 3;
 pub const ISSUANCE: u8 = 4;
 
 // An account of a CSD, of one of the kinds.
-#[derive(Drop)]
+#[derive(Clone, Copy)]
 pub struct Account {
     pub csd: u8,
     pub kind: u8,
@@ -68,7 +68,7 @@ pub struct Account {
 // An investor CSD and its technical issuer with an account of each: a mirror and an omnibus account,
 // or, where the technical issuer is external, an inter-CSD account and hex FFFF. They are chosen by the account of the investor CSD
 // that is served, a participant's or an omnibus account.
-#[derive(Drop)]
+#[derive(Clone, Copy)]
 pub struct Pair {
     pub investor: u8,
     pub technical: u8,
@@ -78,7 +78,7 @@ pub struct Pair {
 }
 
 // Kind 0 issuer, 1 investor; flag 1 default, 0 alternative. Days are counted from 1 January 2020 as day 0; both are included.
-#[derive(Drop)]
+#[derive(Clone, Copy)]
 pub struct Link {
     pub security: u8,
     pub kind: u8,
@@ -131,7 +131,7 @@ pub struct Directory {
 }
 
 // One half of an instruction: its account, the counterpart's CSD, and what is delivered for which amount.
-#[derive(Drop)]
+#[derive(Clone, Copy)]
 pub struct Half {
     pub account: u16,
     pub counterpart: u8,
@@ -146,14 +146,14 @@ pub const DELIVERING: u8 = 0;
 pub const RECEIVING: u8 = 1;
 
 // A half with its side written out.
-#[derive(Drop)]
+#[derive(Clone, Copy)]
 pub struct SidedHalf {
     pub side: u8,
     pub half: Half,
 }
 
 // One step of a chain: the CSD, the account debited and the account credited in its books.
-#[derive(Drop)]
+#[derive(Clone, Copy)]
 pub struct Step {
     pub csd: u8,
     pub debited: u16,
@@ -161,14 +161,14 @@ pub struct Step {
 }
 
 // A number of units of a security, and a number of cents of cash. They never add up together.
-#[derive(Drop)]
+#[derive(Clone, Copy)]
 pub struct Units(pub i64);
 
-#[derive(Drop)]
+#[derive(Clone, Copy)]
 pub struct Cents(pub i64);
 
 // The four ways in which a walk ends, with the CSD where it ended.
-#[derive(Drop)]
+#[derive(Clone, Copy)]
 pub enum WalkEnd {
     Inside(u8),
     Outside(u8),
@@ -177,14 +177,14 @@ pub enum WalkEnd {
 }
 
 // What a walk does at a CSD: it ends, or goes on to the next.
-#[derive(Drop)]
+#[derive(Clone, Copy)]
 pub enum Hop {
     Ends(WalkEnd),
     On(u8),
 }
 
 // How the two sides of a chain join: at one CSD, at an issuer each, or at an external CSD each.
-#[derive(Drop)]
+#[derive(Clone, Copy)]
 pub enum Join {
     Meeting,
     Issuers,
@@ -192,7 +192,7 @@ pub enum Join {
 }
 
 // The two ends of the default walks judged together: a chain of two issuers or of two external ends, or the refusal.
-#[derive(Drop)]
+#[derive(Clone, Copy)]
 pub enum Verdict {
     TwoIssuers,
     TwoExternals,
@@ -200,7 +200,7 @@ pub enum Verdict {
 }
 
 // What a call answers. Booked and Chained carry the number of steps, Refused the number of the documents.
-#[derive(Drop)]
+#[derive(Clone, Copy)]
 pub enum Answer {
     Accepted,
     Booked(usize),
@@ -209,14 +209,14 @@ pub enum Answer {
 }
 
 // A sum of positions, or the refusal.
-#[derive(Drop)]
+#[derive(Clone, Copy)]
 pub enum SecurityTotal {
     SumUnits(Units),
     NoUnits(u8),
 }
 
 // A sum of cash, or the refusal.
-#[derive(Drop)]
+#[derive(Clone, Copy)]
 pub enum CashTotal {
     SumCents(Cents),
     NoCents(u8),
@@ -230,14 +230,14 @@ pub struct Entered {
 }
 
 // Steps by value: the first `count` rows are in use.
-#[derive(Drop)]
+#[derive(Clone, Copy)]
 pub struct Steps {
     pub count: usize,
     pub rows: [Step; STEPS],
 }
 
 // What a derivation or settlement answers, with its steps by value.
-#[derive(Drop)]
+#[derive(Clone, Copy)]
 pub struct Reply {
     pub answer: Answer,
     pub steps: Steps,

@@ -20,7 +20,7 @@ use wire::commands::Next;
 use wire::reader::next_in;
 
 // After a command: the place of the next command, and where the text ends.
-#[derive(Drop)]
+#[derive(Clone, Copy)]
 pub struct Turn {
     pub at: usize,
     pub end: usize,

@@ -17,7 +17,7 @@ use index::places::INDEX;
 use rules::{Join, Verdict, WalkEnd};
 
 // How the sides join and the CSDs that they name; or the number that refuses the chain, 0 where there is one.
-#[derive(Drop)]
+#[derive(Clone, Copy)]
 pub struct RouteFound {
     pub refusal: u8,
     pub join: Join,

@@ -6,7 +6,7 @@ ghost use Rattle.walks.specs.Sides.{named};
 use rules::{NO_CSD, SIDE};
 
 // The first `count` of the CSDs are named.
-#[derive(Drop)]
+#[derive(Clone, Copy)]
 pub struct Side {
     pub count: usize,
     pub csds: [u8; SIDE],

@@ -14,7 +14,7 @@ use rules::{Hop, SIDE, WalkEnd};
 const WAYS: usize = 4;
 
 // How a walk ended, and the CSDs that it named.
-#[derive(Drop)]
+#[derive(Clone, Copy)]
 pub struct Walk {
     pub end: WalkEnd,
     pub side: Side,

@@ -4,7 +4,7 @@ ghost use Rattle.rules.specs.Stream.{width_of};
 ghost use Rattle.wire.specs.Commands.{width_in, next_at};
 
 // How many operand bytes follow a command byte, if it is one.
-#[derive(Drop)]
+#[derive(Clone, Copy)]
 pub enum Width {
     Bytes(usize),
     NoCommand,
@@ -12,7 +12,7 @@ pub enum Width {
 
 // What stands at a place of the input: its end; a byte that names no command (refusal 1); a command whose operands are cut short (2); or a
 // command, whose operands are the bytes from `start` up to `end`, where the next one starts.
-#[derive(Drop)]
+#[derive(Clone, Copy)]
 pub enum Next {
     End,
     Unknown,

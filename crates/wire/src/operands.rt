@@ -8,7 +8,7 @@ ghost use Rattle.wire.specs.Operands.{padded_at, csd_in, security_in, move_in, p
 use rules::{Account, BIC, Csd, Half, ISIN, Link, Pair, Security, SidedHalf};
 
 // The operands of 06 and 07.
-#[derive(Drop)]
+#[derive(Clone, Copy)]
 pub struct Move {
     pub account: u16,
     pub security: u8,
@@ -17,7 +17,7 @@ pub struct Move {
 }
 
 // The operands of 08 and 09.
-#[derive(Drop)]
+#[derive(Clone, Copy)]
 pub struct Payment {
     pub account: u16,
     pub amount: u64,
