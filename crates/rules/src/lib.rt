@@ -91,37 +91,37 @@ pub struct Link {
 }
 
 // The tables: the first `count` rows of each are in use.
-#[derive(Drop)]
+#[derive(Clone, Copy)]
 pub struct CsdTable {
     pub count: usize,
     pub rows: [Csd; CSDS],
 }
 
-#[derive(Drop)]
+#[derive(Clone, Copy)]
 pub struct SecurityTable {
     pub count: usize,
     pub rows: [Security; SECURITIES],
 }
 
-#[derive(Drop)]
+#[derive(Clone, Copy)]
 pub struct AccountTable {
     pub count: usize,
     pub rows: [Account; ACCOUNTS],
 }
 
-#[derive(Drop)]
+#[derive(Clone, Copy)]
 pub struct PairTable {
     pub count: usize,
     pub rows: [Pair; PAIRS],
 }
 
-#[derive(Drop)]
+#[derive(Clone, Copy)]
 pub struct LinkTable {
     pub count: usize,
     pub rows: [Link; LINKS],
 }
 
-#[derive(Drop)]
+#[derive(Clone, Copy)]
 pub struct Directory {
     pub csds: CsdTable,
     pub securities: SecurityTable,
@@ -223,7 +223,7 @@ pub enum CashTotal {
 }
 
 // What an entry answers, and the directory after it.
-#[derive(Drop)]
+#[derive(Clone, Copy)]
 pub struct Entered {
     pub answer: Answer,
     pub directory: Directory,
