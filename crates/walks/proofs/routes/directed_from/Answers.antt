@@ -1,0 +1,17 @@
+-- Without a turn it is the default walk.
+use mathlib.Core.Path.{sym, ap, ◌∙◌}
+use Rattle.rules.specs.Tests.{any}
+use Rattle.rules.specs.Walks.{Walk, side_limit}
+use Rattle.index.specs.Asked.{asked_on}
+use Rattle.walks.specs.Routes.{turns}
+use Rattle.walks.proofs.Directed.{same_walk}
+use borrow.Author.Rules.{rules}
+use Rattle.walks.proofs.routes.directed_from.Goals as goal
+
+pub returns : goal.returns
+returns c =
+    let a = c.args in
+    let K = asked_on a.index.now a.day in
+    let plain = sym c.turns_along.ensures ∙ c.if-turns_along.false in
+    let known = c.requires in
+    known ∙ same_walk K a.security a.target side_limit a.csd (sym (ap (λ (w : Walk). any (turns K a.security a.target) w.path) known) ∙ plain)
