@@ -1,0 +1,16 @@
+-- So far the first counts are written.
+use borrow.Author.Rules.{rules}
+use mathlib.Core.Path.{◌≡◌, refl}
+use Prim.Native.Nat.{◌≤◌, ◌-◌}
+use native.Mathlib.Omega.{arith}
+use lib.ListN.{length, take, length-set}
+use Rattle.layout.specs.Layout.{counts_of}
+use Rattle.layout.proofs.Bytes.{count_more, counts_done}
+use Rattle.layout.proofs.put_counts.Given as goal
+
+-- So far the first counts are written.
+abbrev pub invariant-loop-i : goal.invariant-loop-i
+invariant-loop-i l = (l.i ≤ 5) × (length l.counts ≡ 5) × (length l.initial.counts ≡ 5) × (take l.i l.counts ≡ take l.i (counts_of l.directory))
+
+abbrev pub decreases-loop-i : goal.decreases-loop-i
+decreases-loop-i l = 5 - l.i

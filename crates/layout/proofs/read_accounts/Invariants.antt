@@ -1,0 +1,16 @@
+-- So far the first rows are read; each is decoded where it starts.
+use borrow.Author.Rules.{rules}
+use mathlib.Core.Path.{◌≡◌, refl, ap, ◌∙◌}
+use Prim.Native.Nat.{◌+◌, ◌*◌, ◌≤◌, ◌-◌}
+use native.Mathlib.Omega.{arith}
+use lib.ListN.{length, take, length-set}
+use Rattle.layout.specs.Layout.{rows_in, account_in, account_of, accounts_in}
+use Rattle.layout.proofs.Rows.{from, row_more, rows_done}
+use Rattle.layout.proofs.read_accounts.Given as goal
+
+-- So far the first rows are read; each is decoded where it starts.
+abbrev pub invariant-loop-i : goal.invariant-loop-i
+invariant-loop-i l = (l.i ≤ 256) × (length l.rows ≡ 256) × (take l.i l.rows ≡ rows_in account_in 576 2 l.bytes l.i)
+
+abbrev pub decreases-loop-i : goal.decreases-loop-i
+decreases-loop-i l = 256 - l.i

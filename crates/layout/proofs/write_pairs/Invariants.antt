@@ -1,0 +1,19 @@
+-- So far the first rows stand in their place; the rest is as before.
+use borrow.Author.Rules.{rules}
+use mathlib.Core.Path.{◌≡◌, refl}
+use Prim.Native.Nat.{◌+◌, ◌*◌, ◌≤◌, ◌-◌}
+use native.Mathlib.Omega.{arith}
+use lib.ListN.{length}
+use Rattle.rules.specs.Directory.{pair_limit}
+use Rattle.rules.specs.Entries.{blank_pair}
+use Rattle.layout.specs.Layout.{pair_width, pairs_length, pairs_start, links_start, rows_length, bytes_in, pair_bytes, Put}
+use Rattle.layout.proofs.Bytes.{put_none, put_row, put_done}
+use Rattle.layout.proofs.write_pairs.Given as goal
+
+-- So far the first rows stand in their place; the rest is as before.
+abbrev pub invariant-loop-i : goal.invariant-loop-i
+invariant-loop-i l =
+    (l.i ≤ pair_limit) × (length l.initial.bytes ≡ rows_length) × Put pairs_start (pairs_start + l.i * pair_width) (bytes_in pair_bytes blank_pair pair_width l.table.rows (l.i * pair_width)) l.initial.bytes l.bytes
+
+abbrev pub decreases-loop-i : goal.decreases-loop-i
+decreases-loop-i l = pair_limit - l.i
