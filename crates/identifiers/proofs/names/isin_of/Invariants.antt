@@ -1,0 +1,16 @@
+-- The loop's invariant: the bytes passed are the list's.
+use Prim.Native.Nat.{ℕ, ◌+◌, ◌*◌, ◌-◌, ◌≤◌, ◌<◌}
+use mathlib.Core.Path.{◌≡◌, refl}
+use lib.ListN.{length, get_or, length-set}
+use Rattle.identifiers.specs.Names.{isins, isin_size, name_byte}
+use Rattle.identifiers.proofs.Laws.{one_read, all_read}
+use borrow.Author.Rules.{rules}
+use native.Mathlib.Omega.{arith}
+use Rattle.identifiers.proofs.names.isin_of.Given as goal
+
+-- The loop's invariant: the bytes passed are the list's.
+abbrev pub invariant-loop-i : goal.invariant-loop-i
+invariant-loop-i l = (l.i ≤ isin_size) × (length l.isin ≡ isin_size) × ((k : ℕ) → k < l.i → get_or l.isin k 0 ≡ name_byte l.names (l.from + k))
+
+abbrev pub decreases-loop-i : goal.decreases-loop-i
+decreases-loop-i l = isin_size - l.i
