@@ -1,0 +1,27 @@
+-- The loop's invariant: each day of the row has a default exactly if each day from this one on has.
+use Prim.Native.Nat.{ℕ, suc, ◌-◌, ◌≤◌}
+use mathlib.Core.Path.{◌≡◌, refl, sym, ◌∙◌}
+use mathlib.Core.Logic.{◌≢◌}
+use mathlib.Core.Bool.{Bool, false}
+use mathlib.Core.List.{List}
+use mathlib.Core.Option.{Option, none, some}
+use native.Mathlib.Omega.{arith}
+use Rattle.rules.specs.declared.Link.{Link}
+use Rattle.rules.specs.Entries.{default_on, after_default, each_day}
+use Rattle.rules.proofs.Days.{each_on, each_over, default_lasts}
+use Rattle.index.specs.Asked.{links_at, asked_by}
+use Rattle.index.specs.Found.{day_after}
+use borrow.Author.Rules.{rules}
+use Rattle.refusals.proofs.default_each_day.Given as goal
+
+-- The loop's invariant: each day of the row has a default exactly if each day from this one on has.
+-- each day from this one on has a default
+abbrev pub from : List Link → ℕ → ℕ → Bool
+from ls day last = each_day (suc last - day) ls day last
+
+abbrev pub invariant-loop-day : goal.invariant-loop-day
+invariant-loop-day l =
+    from (links_at l.index l.row.security l.row.csd) l.row.first l.row.last ≡ from (links_at l.index l.row.security l.row.csd) l.day l.row.last
+
+abbrev pub decreases-loop-day : goal.decreases-loop-day
+decreases-loop-day l = suc l.row.last - l.day
