@@ -1,0 +1,17 @@
+-- The stores one after another, at the number that the count gave.
+use mathlib.Core.Path.{◌≡◌, ◌∙◌}
+use lib.ListN.{length}
+use lib.Seq.{take_all}
+use native.Mathlib.Omega.{arith}
+use Rattle.identifiers.specs.Names.{bic_size}
+use Rattle.entries.specs.Entered.{counted, with_csd, with_bic}
+use borrow.Author.Rules.{rules}
+use Rattle.entries.proofs.entries.add_csd.Goals as goal
+
+pub returns : goal.returns
+unfolding counted with_csd with_bic
+returns c =
+    (
+      c.count_on.ensures ∙ rw (c.store.ensures, c.entry-n.ensures),
+      c.put_bic.ensures ∙ rw (c.entry-n.ensures, take_all bic_size c.args.row.bic (omega (arith, (let h : length c.args.row.bic ≡ bic_size = search rules in h)))),
+    )

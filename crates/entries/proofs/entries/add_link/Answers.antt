@@ -1,0 +1,24 @@
+-- The numbers one after another.
+use mathlib.Core.Path.{◌∙◌}
+use Rattle.entries.specs.Entered.{counted, with_link}
+use borrow.Author.Rules.{rules}
+use Rattle.entries.proofs.entries.add_link.Goals as goal
+
+pub returns : goal.returns
+unfolding counted with_link
+returns c =
+    c.count_on.ensures
+    ∙ rw (
+      c.add_target.ensures,
+      c.store.ensures,
+      c.row_for.ensures,
+      c.put_number-7.ensures,
+      c.put_number-6.ensures,
+      c.put_number-5.ensures,
+      c.put_number-4.ensures,
+      c.put_number-3.ensures,
+      c.put_number-2.ensures,
+      c.put_number.ensures,
+      c.entry-next.ensures,
+      c.entry-link.ensures,
+    )
