@@ -1,0 +1,32 @@
+-- The loop's invariant: the rows ahead, read into what is kept now, end as all rows read into what was kept at entry.
+use borrow.Author.Rules.{rules}
+use Prim.Native.Nat.{◌-◌}
+use mathlib.Core.Path.{◌≡◌, refl}
+use mathlib.Core.List.{[], map}
+use lib.ListN.{length}
+use native.Mathlib.Omega.{arith}
+use Rattle.rules.specs.Directory.{security_rows, security_limit}
+use Rattle.rules.specs.Entries.{security_row}
+use Rattle.index.proofs.Laws.{length_mapped}
+use Rattle.reading.specs.Read.{read_rows, kept}
+use Rattle.reading.proofs.Loops.{Ahead, all_read, stops, goes_on_lem}
+use Rattle.reading.proofs.read_securities.Goals as goal
+
+pub returns-then-securities-i : goal.returns-then-securities-i
+returns-then-securities-i c = all_read c.loop-i.invariant (omega arith)
+
+pub returns-then-security_refusal-ne0 : goal.returns-then-security_refusal-ne0
+returns-then-security_refusal-ne0 c =
+    let n : length c.args.securities.rows ≡ security_limit = search length_mapped in
+    stops c.loop-i.invariant (record { isin = [] }) (omega arith) (omega arith) c.security_refusal.ensures c.if-security_refusal-ne0.true
+
+pub loop-i-preserved : goal.loop-i-preserved
+loop-i-preserved c =
+    let n : length c.args.securities.rows ≡ security_limit = search length_mapped in
+    goes_on_lem c.loop-i.invariant (record { isin = [] }) (omega arith) (omega arith) c.security_refusal.ensures c.if-security_refusal-ne0.false
+    c.add_security.ensures.0 c.add_security.ensures.1
+
+pub returns : goal.returns
+returns c =
+    let n : length c.args.securities.rows ≡ security_limit = search length_mapped in
+    all_read c.loop-i.invariant (omega arith)
