@@ -1,0 +1,21 @@
+-- `ending::put_totals` meets its contract: after i turns the lines of i securities stand there. Assumes nothing.
+use mathlib.Core.Path.{◌≡◌, refl, ap, ◌∙◌}
+use Prim.Native.Nat.{◌-◌, ◌≤◌}
+use native.Mathlib.Omega.{arith}
+use lib.ListN.{length}
+use borrow.Author.Rules.{rules}
+use Rattle.rules.specs.Directory.{security_limit}
+use Rattle.text.specs.Appended.{Appended}
+use Rattle.text.proofs.Appends.{no_bytes, then, named, front_of}
+use Rattle.refusals.specs.Kept.{kept_in}
+use Rattle.ending.specs.Ending.{totals_in, securities_in}
+use Rattle.ending.proofs.Totals.{counted, total_told}
+use Rattle.ending.proofs.put_totals.Given as goal
+
+-- `ending::put_totals` meets its contract: after i turns the lines of i securities stand there. Assumes nothing.
+abbrev pub invariant-loop-i : goal.invariant-loop-i
+invariant-loop-i l =
+    (length l.out ≡ length l.initial.out) × (l.i ≤ securities_in l.index) × Appended l.initial.out l.initial.end l.out l.end (totals_in (kept_in l.index l.names) l.positions l.i)
+
+abbrev pub decreases-loop-i : goal.decreases-loop-i
+decreases-loop-i l = security_limit - l.i
