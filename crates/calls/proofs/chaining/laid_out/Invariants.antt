@@ -1,0 +1,18 @@
+-- The loop's invariant: the first i steps are stored on blank rows.
+use borrow.Author.Rules.{rules}
+use Prim.Native.Nat.{◌≤◌, ◌-◌}
+use mathlib.Core.Path.{◌≡◌}
+use native.Mathlib.Omega.{arith}
+use native.Mathlib.Numerals.{add-one}
+use Rattle.rules.specs.Chain.{step_limit}
+use Rattle.chain.specs.StepList.{step_at}
+use Rattle.rules.specs.Outcomes.{blanks}
+use Rattle.calls.proofs.Stored.{stored, laid}
+use Rattle.calls.proofs.chaining.laid_out.Given as goal
+
+-- The loop's invariant: the first i steps are stored on blank rows.
+abbrev pub invariant-loop-i : goal.invariant-loop-i
+invariant-loop-i l = (l.i ≤ l.n) × (l.rows ≡ stored (step_at l.numbers) l.i (blanks step_limit))
+
+abbrev pub decreases-loop-i : goal.decreases-loop-i
+decreases-loop-i l = l.n - l.i

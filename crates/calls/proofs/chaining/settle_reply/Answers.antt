@@ -1,0 +1,11 @@
+-- Halves in order: nothing is asked of their sides.
+use Rattle.rules.specs.Calls.{ordered}
+use Rattle.chain.proofs.Deriving.{handed}
+use borrow.Author.Rules.{rules}
+use Rattle.calls.proofs.chaining.settle_reply.Goals as goal
+
+-- Halves in order: nothing is asked of their sides.
+pub settled-requires : goal.settled-requires
+settled-requires c =
+    let a = c.args in
+    (ordered a.delivering a.receiving, handed (ordered a.delivering a.receiving))

@@ -1,0 +1,20 @@
+-- 3 and 4 first; else what the stream's function answers and leaves over the index.
+use borrow.Author.Rules.{rules}
+use Rattle.booking.specs.Moves.{way_of}
+use Rattle.calls.proofs.Admitted.{nothing_kept_lem}
+use Rattle.calls.proofs.Decided.{payment_refused, payment_passed}
+use Rattle.calls.proofs.moving.payment.Goals as goal
+
+-- 3 and 4 first; else what the stream's function answers and leaves over the index.
+pub early_refusal-number-requires : goal.early_refusal-number-requires
+early_refusal-number-requires c = nothing_kept_lem
+
+pub returns-then-number-ne0 : goal.returns-then-number-ne0
+returns-then-number-ne0 c =
+    let a = c.args in
+    payment_refused a.directory a.cash.now (way_of a.incoming) a.account a.amount _ _ c.early_refusal-number.ensures c.if-number-ne0.true
+
+pub returns : goal.returns
+returns c =
+    let a = c.args in
+    payment_passed a.directory a.cash.now (way_of a.incoming) a.account a.amount _ _ c.early_refusal-number.ensures c.if-number-ne0.false _ _ c.move_cash.ensures.answer c.move_cash.ensures.cash
