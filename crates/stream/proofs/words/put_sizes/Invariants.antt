@@ -1,0 +1,17 @@
+-- `stream::words::put_sizes` meets its contract: so far the sizes of the first numbers stand there. Assumes nothing.
+use borrow.Author.Rules.{rules}
+use mathlib.Core.Path.{◌≡◌, sym, ap, ◌∙◌}
+use Prim.Native.Nat.{ℕ, ◌-◌, ◌≤◌}
+use native.Mathlib.Omega.{arith}
+use lib.ListN.{length, take}
+use Rattle.text.proofs.Appends.{fits}
+use Rattle.stream.specs.Words.{sizes_to}
+use Rattle.stream.proofs.Table.{no_sizes, size_more, all_sizes}
+use Rattle.stream.proofs.words.put_sizes.Given as goal
+
+-- `stream::words::put_sizes` meets its contract: so far the sizes of the first numbers stand there. Assumes nothing.
+abbrev pub invariant-loop-n : goal.invariant-loop-n
+invariant-loop-n l = (l.n ≤ 1_000) × (1 ≤ l.n → length l.sizes ≡ 1_000) × (take l.n l.sizes ≡ sizes_to l.n)
+
+abbrev pub decreases-loop-n : goal.decreases-loop-n
+decreases-loop-n l = 1_000 - l.n
