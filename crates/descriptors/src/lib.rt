@@ -1,6 +1,6 @@
-// Bytes read from standard input and written to a descriptor, through the C library.
+// Bytes read from an input and written to an output, through std's readers and writers.
 #![tactic(auto)]
 
-pub mod transfers; // transfers.rt: what one call of the C library did
-pub mod input; // input.rt: standard input, read to its end
-pub mod output; // output.rt: bytes written to a descriptor
+pub mod transfers; // transfers.rt: what one call of the system did
+pub mod input; // input.rt: an input, read to its end
+pub mod output; // output.rt: bytes written to an output, all of them

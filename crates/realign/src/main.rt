@@ -5,20 +5,20 @@
 use descriptors::input::{Input, read_input};
 use descriptors::output::write_whole;
 
-fn main() {
+fn main(rt: HostRuntime) {
     let mut input = [0u8; stream::INPUT + 1];
     let mut output = [0u8; stream::ROOM];
-    let Input::Whole(n) = read_input(&mut input) else {
+    let Input::Whole(n) = read_input(&mut rt.stdin(), &mut input) else {
         write_whole(
-            libc::STDERR_FILENO,
+            &mut rt.stderr(),
             b"realign: standard input could not be read\n",
         );
         return;
     };
     let end = stream::run(&input[..n], &mut output);
-    if !write_whole(libc::STDOUT_FILENO, &output[..end]) {
+    if !write_whole(&mut rt.stdout(), &output[..end]) {
         write_whole(
-            libc::STDERR_FILENO,
+            &mut rt.stderr(),
             b"realign: standard output could not be written\n",
         );
     }
