@@ -1,0 +1,29 @@
+-- 1280 and 2 by the tests; then what the derivation answers and leaves.
+use mathlib.Core.Path.{◌≡◌, refl, sym, ap}
+use mathlib.Core.Bool.{false}
+use Prim.Native.Nat.{ℕ}
+use native.Mathlib.Omega.{arith}
+use lib.ListN.{take}
+use lib.Seq.{length-take-le}
+use Rattle.probe.specs.Exports.{fits}
+use Rattle.wire.specs.Operands.{halves_in, day_in}
+use Rattle.probe.proofs.Exported.{no_counts, no_rows, derive_cut, derived}
+use borrow.Author.Rules.{rules}
+use Rattle.probe.proofs.calls.derive.Goals as goal
+
+pub returns-then-bytes-end : goal.returns-then-bytes-end
+returns-then-bytes-end c =
+    let a = c.args in
+    derive_cut a.counts.now a.rows.now (omega (arith, c.if-counts-ne-COUNTS.false)) (omega (arith, c.if-rows-ne-ROWS.false)) a.tag a.bytes.now a.steps.now
+    (omega (arith, c.if-bytes-end.true, c.width-end.ensures)) c.code_of.result c.code_of.ensures
+
+pub returns : goal.returns
+returns c =
+    let w = c.replied in
+    let r = c.derived-reply in
+    let d = c.read_directory-directory in
+    let a = c.args in
+    derived a.counts.now a.rows.now (omega (arith, c.if-counts-ne-COUNTS.false)) (omega (arith, c.if-rows-ne-ROWS.false)) d.result d.ensures a.tag a.bytes.now a.steps.now
+    (omega (arith, c.if-bytes-end.false, c.width-end.ensures)) _ (ap (λ (m : ℕ). take m a.bytes.now) c.width-end.ensures) (halves_in a.tag (take c.width-end.result a.bytes.now)) refl
+    (day_in a.tag (take c.width-end.result a.bytes.now)) refl
+    r.result w.result w.new.steps w.ensures c.requires r.ensures
