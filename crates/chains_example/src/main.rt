@@ -8,40 +8,36 @@ use examples::{
     with_pair,
 };
 use rules::{ACCOUNTS, Answer, Directory, NO_ACCOUNT, NO_CSD, OMNIBUS, STEPS, Security};
+use std::io;
 
 // ---- what is printed
 
 // "K steps mean 2 × K − 2 generated instructions."
-fn put_chain(answer: Answer) {
-    let count = examples::put_answer(answer);
+fn put_chain(rt: &impl Print, answer: Answer) -> io::Result<()> {
+    let count = examples::put_answer(rt, answer)?;
     match count {
-        1..=STEPS => put_number(b", generated ", (2 * count - 2) as u64),
-        _ => put(b""),
+        1..=STEPS => put_number(rt, b", generated ", (2 * count - 2) as u64)?,
+        _ => {}
     }
-    put(b"\n");
+    put(rt, b"\n")
 }
 
 // A step as a line, or its CSD alone, which is one of eight.
-fn put_step(names: &[u8; 8], step: rules::Step, line: bool) {
+fn put_step(rt: &impl Print, names: &[u8; 8], step: rules::Step, line: bool) -> io::Result<()> {
     let name = [b'-', b' ', names[(step.csd % 8) as usize], b' '];
     if !line {
-        put(&name[2..]);
-        return;
+        return put(rt, &name[2..]);
     }
-    put(&name);
-    put_numbers(b"", step.debited as u64, b" ", step.credited as u64);
-    put(b"\n");
+    put(rt, &name)?;
+    put_numbers(rt, b"", step.debited as u64, b" ", step.credited as u64)?;
+    put(rt, b"\n")
 }
 
-fn put_steps(names: &[u8; 8], steps: rules::Steps, lines: bool) {
-    let mut i: usize = 0;
-    while i < STEPS {
-        if steps.count <= i {
-            return;
-        }
-        put_step(names, steps.rows[i], lines);
-        i += 1;
+fn put_steps(rt: &impl Print, names: &[u8; 8], steps: rules::Steps, lines: bool) -> io::Result<()> {
+    for step in steps.rows.iter().take(steps.count) {
+        put_step(rt, names, *step, lines)?;
     }
+    Ok(())
 }
 
 // ---- the directory that is drawn
@@ -76,13 +72,11 @@ fn start() -> Directory {
 fn serving(directory: Directory, csd: u8, technical: u8, mirror: u16, omnibus: u16) -> Directory {
     let accounts = directory.accounts;
     let mut served = directory;
-    let mut i: usize = 0;
-    while i < ACCOUNTS {
+    for i in 0..ACCOUNTS {
         let account = accounts.rows[i];
         if (i < accounts.count) & ((account.csd == csd) & (account.kind <= OMNIBUS)) {
             served = with_pair(served, pair(csd, technical, mirror, omnibus, i as u16));
         }
-        i += 1;
     }
     served
 }
@@ -132,33 +126,33 @@ fn half(account: u16, counterpart: u8) -> rules::Half {
 }
 
 // A delivery from the first participant of A to the second of another CSD, or of A.
-fn show(letter: u8, drawing: &[u8]) {
+fn show(rt: &impl Print, letter: u8, drawing: &[u8]) -> io::Result<()> {
     let to = csd_of(letter);
     let receiving = half(3 * (to as u16) + 1, 0);
     let reply = desk::derive_by_value(drawn(drawing), half(0, to), receiving, DAY);
     let answer = reply.answer;
     let ends = [b'A', b' ', b't', b'o', b' ', letter, b',', b' '];
-    put(&ends);
-    put(drawing);
-    put(b": ");
-    put_steps(b"ABCDIJXY", reply.steps, false);
-    put_chain(answer);
-    put_steps(b"ABCDIJXY", reply.steps, true);
+    put(rt, &ends)?;
+    put(rt, drawing)?;
+    put(rt, b": ")?;
+    put_steps(rt, b"ABCDIJXY", reply.steps, false)?;
+    put_chain(rt, answer)?;
+    put_steps(rt, b"ABCDIJXY", reply.steps, true)
 }
 
 // The first has D = R: no link is read.
-fn main() {
-    show(b'A', b"B>I I=I");
-    show(b'B', b"A>C C>I B>D D>I I=I");
-    show(b'B', b"A>I B>I I=I");
-    show(b'B', b"A>B B>I I=I");
-    show(b'B', b"A>C B>C C>X");
-    show(b'B', b"A>I B>J I=I J=J");
-    show(b'B', b"A>I B>J I=I J=J A~B");
-    show(b'B', b"A>C C>X B>D D>X C~B");
-    show(b'B', b"A>X B>Y");
-    show(b'B', b"A>I B>X I=I");
-    show(b'B', b"A>X B>I I=I");
-    show(b'B', b"A>C C>I B>D D>I I=I A~B");
-    show(b'B', b"B>I I=I");
+fn main(rt: HostRuntime) -> io::Result<()> {
+    show(&rt, b'A', b"B>I I=I")?;
+    show(&rt, b'B', b"A>C C>I B>D D>I I=I")?;
+    show(&rt, b'B', b"A>I B>I I=I")?;
+    show(&rt, b'B', b"A>B B>I I=I")?;
+    show(&rt, b'B', b"A>C B>C C>X")?;
+    show(&rt, b'B', b"A>I B>J I=I J=J")?;
+    show(&rt, b'B', b"A>I B>J I=I J=J A~B")?;
+    show(&rt, b'B', b"A>C C>X B>D D>X C~B")?;
+    show(&rt, b'B', b"A>X B>Y")?;
+    show(&rt, b'B', b"A>I B>X I=I")?;
+    show(&rt, b'B', b"A>X B>I I=I")?;
+    show(&rt, b'B', b"A>C C>I B>D D>I I=I A~B")?;
+    show(&rt, b'B', b"B>I I=I")
 }

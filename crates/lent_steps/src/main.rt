@@ -9,6 +9,7 @@ ghost use Rattle.lent_steps.specs.Lent.{size, left, back_from};
 
 use examples::{DAY, put, put_answer, put_number, put_numbers, put_step, wider};
 use rules::{ACCOUNTS, Answer, Directory, Half, POSITIONS, STEPS, SidedHalf, Step};
+use std::io;
 
 // Steps in the list, of which a call is lent the first ones or all.
 const LIST: usize = 20;
@@ -134,10 +135,8 @@ fn other(i: usize) -> Step {
 
 fn others() -> [Step; LIST] {
     let mut steps = [other(0); LIST];
-    let mut i: usize = 0;
-    while i < LIST {
+    for i in 0..LIST {
         steps[i] = other(i);
-        i += 1;
     }
     steps
 }
@@ -149,39 +148,32 @@ fn same(a: Step, b: Step) -> bool {
 // How many of the steps behind the first `count` are what they were.
 fn untouched(back: Back, count: usize) -> usize {
     let mut n: usize = 0;
-    let mut i: usize = 0;
-    while i < LIST {
+    for i in 0..LIST {
         if (count <= i) & same(back.steps[i], other(i)) {
             n += 1;
         }
-        i += 1;
     }
     n
 }
 
 // ---- what is printed
 
-fn put_steps(back: Back, count: usize) {
-    let mut i: usize = 0;
-    while i < LIST {
-        if count <= i {
-            return;
-        }
-        put_step(back.steps[i]);
-        i += 1;
+fn put_steps(rt: &impl Print, back: Back, count: usize) -> io::Result<()> {
+    for step in back.steps.iter().take(count) {
+        put_step(rt, *step)?;
     }
+    Ok(())
 }
 
 // The answer, how many of the other steps are untouched, and the K steps.
-fn put_back(back: Back) {
-    let answer = back.answer;
-    let count = put_answer(answer);
-    put_number(b", ", untouched(back, count) as u64);
+fn put_back(rt: &impl Print, back: Back) -> io::Result<()> {
+    let count = put_answer(rt, back.answer)?;
+    put_number(rt, b", ", untouched(back, count) as u64)?;
     if count < LIST {
-        put_number(b" of ", (LIST - count) as u64);
+        put_number(rt, b" of ", (LIST - count) as u64)?;
     }
-    put(b" other steps untouched\n");
-    put_steps(back, count);
+    put(rt, b" other steps untouched\n")?;
+    put_steps(rt, back, count)
 }
 
 // ---- the calls that are shown
@@ -206,32 +198,51 @@ fn half(account: u16, counterpart: u16, quantity: u64) -> Half {
     }
 }
 
-fn put_lent(lent: usize) {
-    put_number(b", lent ", lent as u64);
-    put(b": ");
+fn put_lent(rt: &impl Print, lent: usize) -> io::Result<()> {
+    put_number(rt, b", lent ", lent as u64)?;
+    put(rt, b": ")
 }
 
 // The quantity and account of each half, and how many steps are lent.
-fn put_call(word: &[u8], lent: usize, delivering: Half, receiving: Half) {
+fn put_call(
+    rt: &impl Print,
+    word: &[u8],
+    lent: usize,
+    delivering: Half,
+    receiving: Half,
+) -> io::Result<()> {
     put_numbers(
+        rt,
         word,
         delivering.quantity,
         b" from ",
         delivering.account as u64,
-    );
-    put_numbers(b", ", receiving.quantity, b" to ", receiving.account as u64);
-    put_lent(lent);
+    )?;
+    put_numbers(
+        rt,
+        b", ",
+        receiving.quantity,
+        b" to ",
+        receiving.account as u64,
+    )?;
+    put_lent(rt, lent)
 }
 
-fn show_derive(directory: Directory, lent: usize, delivering: Half, receiving: Half)
+fn show_derive(
+    rt: &impl Print,
+    directory: Directory,
+    lent: usize,
+    delivering: Half,
+    receiving: Half,
+) -> io::Result<()>
     requires { lent ≤ size }
 {
-    put_call(b"derive ", lent, delivering, receiving);
-    put_back(derive(directory, others(), lent, delivering, receiving));
+    put_call(rt, b"derive ", lent, delivering, receiving)?;
+    put_back(rt, derive(directory, others(), lent, delivering, receiving))
 }
 
 // A settlement of units of the 100 that are brought in before it.
-fn show_settle(directory: Directory, lent: usize, quantity: u64)
+fn show_settle(rt: &impl Print, directory: Directory, lent: usize, quantity: u64) -> io::Result<()>
     requires { lent ≤ size }
 {
     let mut positions = [0i64; POSITIONS];
@@ -239,7 +250,7 @@ fn show_settle(directory: Directory, lent: usize, quantity: u64)
     let delivering = half(4, 0, quantity);
     let receiving = half(0, 4, quantity);
     desk::bring_in(directory, &mut positions, 4, 0, 100, DAY);
-    put_call(b"settle ", lent, delivering, receiving);
+    put_call(rt, b"settle ", lent, delivering, receiving)?;
     let back = settle(
         directory,
         &mut positions,
@@ -249,7 +260,7 @@ fn show_settle(directory: Directory, lent: usize, quantity: u64)
         delivering,
         receiving,
     );
-    put_back(back);
+    put_back(rt, back)
 }
 
 // A half of 40 units with its side.
@@ -259,35 +270,54 @@ fn sided(side: u8, account: u16, counterpart: u16) -> SidedHalf {
 }
 
 // The side and account of each half, and how many steps are lent.
-fn put_sided_call(word: &[u8], lent: usize, first: SidedHalf, second: SidedHalf) {
-    put(word);
+fn put_sided_call(
+    rt: &impl Print,
+    word: &[u8],
+    lent: usize,
+    first: SidedHalf,
+    second: SidedHalf,
+) -> io::Result<()> {
+    put(rt, word)?;
     put_numbers(
+        rt,
         b"side ",
         first.side as u64,
         b" of ",
         first.half.account as u64,
-    );
+    )?;
     put_numbers(
+        rt,
         b", side ",
         second.side as u64,
         b" of ",
         second.half.account as u64,
-    );
-    put_lent(lent);
+    )?;
+    put_lent(rt, lent)
 }
 
-fn show_derive_sided(directory: Directory, lent: usize, first: SidedHalf, second: SidedHalf)
+fn show_derive_sided(
+    rt: &impl Print,
+    directory: Directory,
+    lent: usize,
+    first: SidedHalf,
+    second: SidedHalf,
+) -> io::Result<()>
     requires { lent ≤ size }
 {
-    put_sided_call(b"derive ", lent, first, second);
-    put_back(derive_sided(directory, others(), lent, first, second));
+    put_sided_call(rt, b"derive ", lent, first, second)?;
+    put_back(rt, derive_sided(directory, others(), lent, first, second))
 }
 
-fn show_settle_sided(directory: Directory, first: SidedHalf, second: SidedHalf) {
+fn show_settle_sided(
+    rt: &impl Print,
+    directory: Directory,
+    first: SidedHalf,
+    second: SidedHalf,
+) -> io::Result<()> {
     let mut positions = [0i64; POSITIONS];
     let mut cash = [0i64; ACCOUNTS];
     desk::bring_in(directory, &mut positions, 4, 0, 100, DAY);
-    put_sided_call(b"settle ", LIST, first, second);
+    put_sided_call(rt, b"settle ", LIST, first, second)?;
     let back = settle_sided(
         directory,
         &mut positions,
@@ -297,41 +327,41 @@ fn show_settle_sided(directory: Directory, first: SidedHalf, second: SidedHalf) 
         first,
         second,
     );
-    put_back(back);
+    put_back(rt, back)
 }
 
-fn derivations(directory: Directory) {
-    show_derive(directory, LIST, half(4, 5, 40), half(5, 4, 40));
-    show_derive(directory, LIST, half(4, 0, 40), half(0, 4, 40));
-    show_derive(directory, LIST, half(6, 0, 40), half(0, 6, 40));
-    show_derive(directory, LIST, half(4, 0, 40), half(0, 4, 41));
-    show_derive(directory, LIST, half(4, 4, 40), half(4, 4, 40));
-    show_derive(directory, LIST, half(9, 0, 40), half(0, 9, 40));
-    show_derive(directory, STEPS, half(6, 0, 40), half(0, 6, 40));
-    show_derive(directory, STEPS - 1, half(6, 0, 40), half(0, 6, 40));
-    show_derive(directory, 3, half(6, 0, 40), half(0, 6, 40));
+fn derivations(rt: &impl Print, directory: Directory) -> io::Result<()> {
+    show_derive(rt, directory, LIST, half(4, 5, 40), half(5, 4, 40))?;
+    show_derive(rt, directory, LIST, half(4, 0, 40), half(0, 4, 40))?;
+    show_derive(rt, directory, LIST, half(6, 0, 40), half(0, 6, 40))?;
+    show_derive(rt, directory, LIST, half(4, 0, 40), half(0, 4, 41))?;
+    show_derive(rt, directory, LIST, half(4, 4, 40), half(4, 4, 40))?;
+    show_derive(rt, directory, LIST, half(9, 0, 40), half(0, 9, 40))?;
+    show_derive(rt, directory, STEPS, half(6, 0, 40), half(0, 6, 40))?;
+    show_derive(rt, directory, STEPS - 1, half(6, 0, 40), half(0, 6, 40))?;
+    show_derive(rt, directory, 3, half(6, 0, 40), half(0, 6, 40))
 }
 
 // The halves of one delivery in both orders, with one side twice, and with a byte that is no side.
-fn sided_derivations(directory: Directory) {
-    show_derive_sided(directory, LIST, sided(0, 4, 0), sided(1, 0, 4));
-    show_derive_sided(directory, LIST, sided(1, 0, 4), sided(0, 4, 0));
-    show_derive_sided(directory, LIST, sided(0, 4, 0), sided(0, 0, 4));
-    show_derive_sided(directory, LIST, sided(2, 4, 0), sided(1, 0, 4));
-    show_derive_sided(directory, STEPS - 1, sided(0, 4, 0), sided(1, 0, 4));
+fn sided_derivations(rt: &impl Print, directory: Directory) -> io::Result<()> {
+    show_derive_sided(rt, directory, LIST, sided(0, 4, 0), sided(1, 0, 4))?;
+    show_derive_sided(rt, directory, LIST, sided(1, 0, 4), sided(0, 4, 0))?;
+    show_derive_sided(rt, directory, LIST, sided(0, 4, 0), sided(0, 0, 4))?;
+    show_derive_sided(rt, directory, LIST, sided(2, 4, 0), sided(1, 0, 4))?;
+    show_derive_sided(rt, directory, STEPS - 1, sided(0, 4, 0), sided(1, 0, 4))
 }
 
-fn settlements(directory: Directory) {
-    show_settle(directory, LIST, 40);
-    show_settle(directory, LIST, 101);
-    show_settle(directory, 3, 40);
-    show_settle_sided(directory, sided(1, 0, 4), sided(0, 4, 0));
-    show_settle_sided(directory, sided(1, 0, 4), sided(1, 4, 0));
+fn settlements(rt: &impl Print, directory: Directory) -> io::Result<()> {
+    show_settle(rt, directory, LIST, 40)?;
+    show_settle(rt, directory, LIST, 101)?;
+    show_settle(rt, directory, 3, 40)?;
+    show_settle_sided(rt, directory, sided(1, 0, 4), sided(0, 4, 0))?;
+    show_settle_sided(rt, directory, sided(1, 0, 4), sided(1, 4, 0))
 }
 
-fn main() {
+fn main(rt: HostRuntime) -> io::Result<()> {
     let directory = wider();
-    derivations(directory);
-    sided_derivations(directory);
-    settlements(directory);
+    derivations(&rt, directory)?;
+    sided_derivations(&rt, directory)?;
+    settlements(&rt, directory)
 }
