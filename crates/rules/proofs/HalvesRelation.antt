@@ -9,9 +9,10 @@ use lib.Dec.{eqb}
 use Rattle.rules.specs.Types.{Account, Half}
 use Rattle.rules.specs.Tests.{is_row}
 use Rattle.rules.specs.Directory.{Rows, is_kind, in_books}
-use Rattle.rules.specs.Lookups.{ask}
+use Rattle.rules.specs.Lookups.{Lookups, ask}
+use Rattle.rules.specs.Chain.{chain}
 use Rattle.rules.specs.Booking.{limit, out_of_range, amount_out_of_range}
-use Rattle.rules.specs.Calls.{Halves, delivering, receiving, side_unknown, same_side, half_unknown, half_out_of_range, halves_differ, halves_conditions}
+use Rattle.rules.specs.Calls.{Halves, delivering, receiving, side_unknown, same_side, half_unknown, half_out_of_range, halves_differ, halves_conditions, halves_chain}
 use Rattle.rules.specs.Relations.{Is}
 use Rattle.rules.specs.Refusals
 use Rattle.rules.specs.Refusals.{before_chain, NoRow, Delivers, HalfRefused, SidesRefused, BothRefused, HalvesRefused}
@@ -21,6 +22,10 @@ use Rattle.rules.proofs.Places.{listed}
 use Rattle.rules.proofs.RowTests.{says_no_row, known, says_other_kind, says_other_csd}
 use Rattle.rules.proofs.AmountRelation.{says_out_of_range}
 use Rattle.rules.proofs.SideRelation.{delivers_is, is_delivers, among_either, delivering_among, receiving_among, says_side_unknown, says_one_side, sides_number, no_side_number}
+
+-- the halves' chain is that from the account that delivers to the one that receives
+pub halves_chain_is : (k : Lookups) (hs : Halves) → halves_chain k hs ≡ chain k (delivering hs).security (delivering hs).account (receiving hs).account
+halves_chain_is k hs = refl
 
 -- ---- one half
 module _ (r : Rows) (h : Half) where

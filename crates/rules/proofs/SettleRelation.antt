@@ -12,7 +12,7 @@ use Rattle.rules.specs.Types.{Half, Step}
 use Rattle.rules.specs.Tests.{Condition, ◌when◌}
 use Rattle.rules.specs.Directory.{Rows, is_kind}
 use Rattle.rules.specs.Lookups.{home_of, ask}
-use Rattle.rules.specs.Chain.{Chain, chained, unchained, steps_of, chain_conditions}
+use Rattle.rules.specs.Chain.{chain, Chain, chained, unchained, steps_of, chain_conditions}
 use Rattle.rules.specs.Booking.{beyond, units_short, units_beyond, cash_short, cash_beyond, payment_beyond, cash_on}
 use Rattle.rules.specs.Calls.{Halves, delivering, receiving, half_unknown, halves_differ, halves_conditions, halves_chain, derive_conditions, book_conditions, settle_conditions}
 use Rattle.rules.specs.Relations.{ChainIs}
@@ -24,7 +24,7 @@ use Rattle.rules.proofs.Places.{Renders, end, skip, test, stop, up_from, entry_p
 use Rattle.rules.proofs.AmountRelation.{says_less, says_beyond, says_units_short, says_units_beyond}
 use Rattle.rules.proofs.SideRelation.{delivers_is}
 use Rattle.rules.proofs.SideRelation.{no_side_number}
-use Rattle.rules.proofs.HalvesRelation.{Early, halves_unknown, halves_range, halves_kind, halves_side, two_sides, halves_differ_lem, halves_same, halves_else, halves_early}
+use Rattle.rules.proofs.HalvesRelation.{halves_chain_is, Early, halves_unknown, halves_range, halves_kind, halves_side, two_sides, halves_differ_lem, halves_same, halves_else, halves_early}
 use Rattle.rules.proofs.Facts.{Facts}
 use Rattle.rules.proofs.ChainNumbers.{chain_apart, apart_chain}
 use Rattle.rules.proofs.ChainRelation.{chain_is_given, chain_given_is}
@@ -88,6 +88,10 @@ module _ (r : Rows) (F : Facts r) (hs : Halves) where
   abbrev called : Chain
   called = halves_chain (ask r) hs
 
+  -- the halves' chain is that from the account that delivers to the one that receives
+  called_is : called ≡ chain (ask r) h.security h.account g.account
+  called_is = halves_chain_is (ask r) hs
+
   module _ {Q : ℕ → Type 0} (to : (n : ℕ) → DeriveRefused r hs n → Q n) (from : (n : ℕ) → Unbooked n → Q n → DeriveRefused r hs n) where
     unbooked : (n : ℕ) → Early n → Unbooked n
     unbooked n (inl l) = inl (omega arith)
@@ -103,7 +107,7 @@ module _ (r : Rows) (F : Facts r) (hs : Halves) where
     none : (steps : List Step) → called ≡ chained steps → (n : ℕ) → 14 ≤ n → n ≤ 18 → Q n → ⊥
     none steps e n l k q =
         let a = chain_apart r F h.security h.account g.account n (as_chain n l (omega arith) (from n (inl k) q)) in
-        let f : chained steps ≡ unchained a.number = sym e ∙ a.unchained in
+        let f : chained steps ≡ unchained a.number = sym e ∙ (called_is ∙ a.unchained) in
         impossible (cc)
 
     -- there is none: its number is the first that applies
@@ -113,12 +117,12 @@ module _ (r : Rows) (F : Facts r) (hs : Halves) where
     stops s (suc k) lo m a b c d e cs ns = go (eqb lo (suc m)) refl (λ ne. stops s k (suc lo) m (omega arith) (omega (arith, ne)) (omega arith) (omega arith) e cs ns)
       where
         go : (x : Bool) → eqb lo (suc m) ≡ x → (lo ≢ suc m → Renders Q ((suc m when true) ∷ cs) (up_from (suc lo) k ns)) → Renders Q ((suc m when true) ∷ cs) (lo ∷ up_from (suc lo) k ns)
-        go true f below = rw (eqb_is lo (suc m) f) (stop (to (suc m) (Refusals.chain h g s (apart_chain r F h.security h.account g.account (suc m) e))))
+        go true f below = rw (eqb_is lo (suc m) f) (stop (to (suc m) (Refusals.chain h g s (apart_chain r F h.security h.account g.account (suc m) (sym called_is ∙ e)))))
         go false f below =
             skip (λ q.
             let x = chain_apart r F h.security h.account g.account lo (as_chain lo a (omega arith) (from lo (inl (omega arith)) q)) in
             let l : x.number ≤ lo = x.least in
-            let same : unchained (suc m) ≡ unchained x.number = sym e ∙ x.unchained in
+            let same : unchained (suc m) ≡ unchained x.number = sym e ∙ (called_is ∙ x.unchained) in
             let is : suc m ≡ x.number = cc in
             eqb_not lo (suc m) f (omega arith)) (below (eqb_not lo (suc m) f))
 
@@ -127,9 +131,9 @@ module _ (r : Rows) (F : Facts r) (hs : Halves) where
     by_chain d cs rest (chained steps) e =
         skip (none steps e 14 (omega arith) (omega arith)) (skip (none steps e 15 (omega arith) (omega arith)) (skip (none steps e 16 (omega arith) (omega arith))
         (skip (none steps e 17 (omega arith) (omega arith)) (skip (none steps e 18 (omega arith) (omega arith)) (rest steps e)))))
-    by_chain d cs rest (unchained zero) e = let k = (chain_number r h.security h.account g.account 0 e).0 in absurd (omega (arith, k))
+    by_chain d cs rest (unchained zero) e = let k = (chain_number r h.security h.account g.account 0 (sym called_is ∙ e)).0 in absurd (omega (arith, k))
     by_chain d cs rest (unchained (suc m)) e =
-        let k = chain_number r h.security h.account g.account (suc m) e in
+        let k = chain_number r h.security h.account g.account (suc m) (sym called_is ∙ e) in
         stops d 5 14 m (omega arith) k.0 (omega (arith, k.1)) (omega arith) e cs (up_from 19 4 [])
 
     -- 12 and 13, once one half delivers and the other receives
@@ -195,10 +199,10 @@ module _ (r : Rows) (F : Facts r) (hs : Halves) where
 
     module _ (d : Delivers hs h g) (steps : List Step) (e : called ≡ chained steps) where
       same : (xs : List Step) → ChainIs r s h.account g.account xs → xs ≡ steps
-      same xs is = let f : called ≡ chained xs = chain_is_given r F s h.account g.account xs is in cc
+      same xs is = let f : called ≡ chained xs = called_is ∙ chain_is_given r F s h.account g.account xs is in cc
 
       is : ChainIs r s h.account g.account steps
-      is = chain_given_is r F s h.account g.account steps e
+      is = chain_given_is r F s h.account g.account steps (sym called_is ∙ e)
 
       -- a test of the booking, said of both halves
       booked_by : (n : ℕ) → 19 ≤ n → n ≤ 22 → {b : Bool} → Says (BookRefused r p c h g n) b → Says (Refused n) b
