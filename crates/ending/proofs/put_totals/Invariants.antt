@@ -12,7 +12,6 @@ use Rattle.ending.specs.Ending.{totals_in, securities_in}
 use Rattle.ending.proofs.Totals.{counted, total_told}
 use Rattle.ending.proofs.put_totals.Given as goal
 
--- `ending::put_totals` meets its contract: after i turns the lines of i securities stand there. Assumes nothing.
 abbrev pub invariant-loop-i : goal.invariant-loop-i
 invariant-loop-i l =
     (length l.out ≡ length l.initial.out) × (l.i ≤ securities_in l.index) × Appended l.initial.out l.initial.end l.out l.end (totals_in (kept_in l.index l.names) l.positions l.i)

@@ -8,7 +8,6 @@ use Rattle.layout.specs.Layout.{counts_of}
 use Rattle.layout.proofs.Bytes.{count_more, counts_done}
 use Rattle.layout.proofs.put_counts.Given as goal
 
--- So far the first counts are written.
 abbrev pub invariant-loop-i : goal.invariant-loop-i
 invariant-loop-i l = (l.i ≤ 5) × (length l.counts ≡ 5) × (length l.initial.counts ≡ 5) × (take l.i l.counts ≡ take l.i (counts_of l.directory))
 

@@ -9,7 +9,6 @@ use Rattle.layout.specs.Layout.{bytes_in, step_bytes, Put}
 use Rattle.layout.proofs.Bytes.{put_none, put_more, length_mapped, steps_done}
 use Rattle.layout.proofs.put_steps.Given as goal
 
--- So far the first bytes of the rows stand in their place; the rest is as before.
 abbrev pub invariant-loop-j : goal.invariant-loop-j
 invariant-loop-j l = (l.j ≤ l.end) × (l.end ≡ l.steps.count * 5) × (l.end ≤ 80) × (l.end ≤ length l.initial.bytes) × Put 0 l.j (bytes_in step_bytes (step 0 0 0) 5 l.steps.rows l.j) l.initial.bytes l.bytes
 

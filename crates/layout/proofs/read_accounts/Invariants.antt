@@ -8,7 +8,6 @@ use Rattle.layout.specs.Layout.{rows_in, account_in, account_of, accounts_in}
 use Rattle.layout.proofs.Rows.{from, row_more, rows_done}
 use Rattle.layout.proofs.read_accounts.Given as goal
 
--- So far the first rows are read; each is decoded where it starts.
 abbrev pub invariant-loop-i : goal.invariant-loop-i
 invariant-loop-i l = (l.i ≤ 256) × (length l.rows ≡ 256) × (take l.i l.rows ≡ rows_in account_in 576 2 l.bytes l.i)
 

@@ -8,7 +8,6 @@ use Rattle.layout.specs.Layout.{link_width, links_start, rows_in, link_in, link_
 use Rattle.layout.proofs.Rows.{from, row_more, rows_done}
 use Rattle.layout.proofs.read_links.Given as goal
 
--- So far the first rows are read; each is decoded where it starts.
 abbrev pub invariant-loop-i : goal.invariant-loop-i
 invariant-loop-i l = (l.i ≤ 128) × (length l.rows ≡ 128) × (take l.i l.rows ≡ rows_in link_in links_start link_width l.bytes l.i)
 

@@ -9,7 +9,6 @@ use Rattle.layout.specs.Layout.{pair_width, pairs_start, rows_in, pair_in, pair_
 use Rattle.layout.proofs.Rows.{from, row_more, rows_done}
 use Rattle.layout.proofs.read_pairs.Given as goal
 
--- So far the first rows are read; each is decoded where it starts.
 abbrev pub invariant-loop-i : goal.invariant-loop-i
 invariant-loop-i l = (l.i ≤ pair_limit) × (length l.rows ≡ pair_limit) × (take l.i l.rows ≡ rows_in pair_in pairs_start pair_width l.bytes l.i)
 

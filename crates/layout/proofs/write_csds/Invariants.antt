@@ -9,7 +9,6 @@ use Rattle.layout.specs.Layout.{rows_length, bytes_in, csd_bytes, Put}
 use Rattle.layout.proofs.Bytes.{put_none, put_more, put_done}
 use Rattle.layout.proofs.write_csds.Given as goal
 
--- So far the first bytes of the rows stand in their place; the rest is as before.
 abbrev pub invariant-loop-j : goal.invariant-loop-j
 invariant-loop-j l = (l.j ≤ 384) × (length l.initial.bytes ≡ rows_length) × Put 0 (0 + l.j) (bytes_in csd_bytes no_csd 12 l.table.rows l.j) l.initial.bytes l.bytes
 

@@ -10,7 +10,6 @@ use Rattle.layout.specs.Layout.{link_width, links_length, links_start, rows_leng
 use Rattle.layout.proofs.Bytes.{put_none, put_row, put_done}
 use Rattle.layout.proofs.write_links.Given as goal
 
--- So far the first rows stand in their place; the rest is as before.
 abbrev pub invariant-loop-i : goal.invariant-loop-i
 invariant-loop-i l =
     (l.i ≤ link_limit) × (length l.initial.bytes ≡ rows_length) × Put links_start (links_start + l.i * link_width) (bytes_in link_bytes blank_link link_width l.table.rows (l.i * link_width)) l.initial.bytes l.bytes

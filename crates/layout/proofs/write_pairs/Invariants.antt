@@ -10,7 +10,6 @@ use Rattle.layout.specs.Layout.{pair_width, pairs_length, pairs_start, links_sta
 use Rattle.layout.proofs.Bytes.{put_none, put_row, put_done}
 use Rattle.layout.proofs.write_pairs.Given as goal
 
--- So far the first rows stand in their place; the rest is as before.
 abbrev pub invariant-loop-i : goal.invariant-loop-i
 invariant-loop-i l =
     (l.i ≤ pair_limit) × (length l.initial.bytes ≡ rows_length) × Put pairs_start (pairs_start + l.i * pair_width) (bytes_in pair_bytes blank_pair pair_width l.table.rows (l.i * pair_width)) l.initial.bytes l.bytes

@@ -9,7 +9,6 @@ use Rattle.layout.specs.Layout.{rows_length, bytes_in, security_bytes, Put}
 use Rattle.layout.proofs.Bytes.{put_none, put_more, put_done}
 use Rattle.layout.proofs.write_securities.Given as goal
 
--- So far the first bytes of the rows stand in their place; the rest is as before.
 abbrev pub invariant-loop-j : goal.invariant-loop-j
 invariant-loop-j l = (l.j ≤ 192) × (length l.initial.bytes ≡ rows_length) × Put 384 (384 + l.j) (bytes_in security_bytes no_security 12 l.table.rows l.j) l.initial.bytes l.bytes
 

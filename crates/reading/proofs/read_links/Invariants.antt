@@ -12,7 +12,6 @@ use Rattle.reading.specs.Read.{read_rows, kept}
 use Rattle.reading.proofs.Loops.{Ahead, all_read, stops, goes_on_lem}
 use Rattle.reading.proofs.read_links.Given as goal
 
--- The loop's invariant: the rows ahead, read into what is kept now, end as all rows read into what was kept at entry.
 abbrev pub invariant-loop-i : goal.invariant-loop-i
 invariant-loop-i l =
     (b : List ℕ) → Ahead link_row l.links.rows l.links.count (read_rows (map link_row (link_rows l.links)) (kept l.initial.index b)) l.i l.index b

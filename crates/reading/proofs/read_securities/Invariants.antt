@@ -12,7 +12,6 @@ use Rattle.reading.specs.Read.{read_rows, kept}
 use Rattle.reading.proofs.Loops.{Ahead, all_read, stops, goes_on_lem}
 use Rattle.reading.proofs.read_securities.Given as goal
 
--- The loop's invariant: the rows ahead, read into what is kept now, end as all rows read into what was kept at entry.
 abbrev pub invariant-loop-i : goal.invariant-loop-i
 invariant-loop-i l =
     Ahead security_row l.securities.rows l.securities.count (read_rows (map security_row (security_rows l.securities)) (kept l.initial.index l.initial.names)) l.i l.index l.names

@@ -14,7 +14,6 @@ use Rattle.index.specs.Found.{day_after}
 use borrow.Author.Rules.{rules}
 use Rattle.refusals.proofs.default_each_day.Given as goal
 
--- The loop's invariant: each day of the row has a default exactly if each day from this one on has.
 -- each day from this one on has a default
 abbrev pub from : List Link → ℕ → ℕ → Bool
 from ls day last = each_day (suc last - day) ls day last

@@ -9,7 +9,6 @@ use Rattle.stream.specs.Obeyed.{held}
 use Rattle.stream.proofs.Going.{Running, running_start, positions_long, cash_long, turn_fits, runs_on, less_left, prints_all, prints_long, refuses_short}
 use Rattle.stream.proofs.run.Given as goal
 
--- `stream::run` meets its contract: the text so far, followed by the lines of the rest, is the whole text. Assumes nothing.
 abbrev pub invariant-loop-at : goal.invariant-loop-at
 invariant-loop-at l =
     Running l.input l.initial.output l.output (held l.index l.names l.positions l.cash l.steps) l.at l.number l.end

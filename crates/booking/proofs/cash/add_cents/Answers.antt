@@ -6,7 +6,6 @@ use mir.Val.{SFits}
 use Rattle.rules.specs.Booking.{add_cents, balance}
 use Rattle.booking.proofs.cash.add_cents.Goals as goal
 
--- One number of the list changes: the balance of the account.
 pub add_at-requires : goal.add_at-requires
 unfolding balance
 add_at-requires c =

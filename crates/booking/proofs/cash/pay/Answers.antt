@@ -9,7 +9,6 @@ use Rattle.booking.proofs.Paid.{cash_fits, both_within, payee_fits, paid_some, p
 use Rattle.rules.specs.Booking.{cents, less_cents}
 use Rattle.booking.proofs.cash.pay.Goals as goal
 
--- The two changes of a payment, unless the amount is 0.
 pub returns-then-amount-eq0 : goal.returns-then-amount-eq0
 returns-then-amount-eq0 c =
     let a = c.args in

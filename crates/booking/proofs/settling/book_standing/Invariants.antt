@@ -12,7 +12,6 @@ use Rattle.chain.specs.StepList.{steps_in}
 use Rattle.booking.proofs.Listed.{booked_none, debit_room, credit_room, both_booked}
 use Rattle.booking.proofs.settling.book_standing.Given as goal
 
--- The positions are what the steps so far make of the positions at the start, and the next step has room.
 abbrev pub invariant-loop-done : goal.invariant-loop-done
 invariant-loop-done l =
     (l.done ≤ l.count) × (length l.positions ≡ length l.initial.positions) × (l.positions ≡ booked (steps_in l.steps l.done) l.security l.quantity l.initial.positions)

@@ -9,7 +9,6 @@ use Rattle.chain.specs.StepList.{steps_in}
 use Rattle.booking.proofs.Listed.{booked_none, next_room, next_booked}
 use Rattle.booking.proofs.settling.book_steps.Given as goal
 
--- The positions are those that the steps so far make of the positions at the start, and the next step has room.
 abbrev pub invariant-loop-i : goal.invariant-loop-i
 invariant-loop-i l =
     (l.i ≤ l.count) × (length l.positions ≡ length l.initial.positions) × (l.positions ≡ booked (steps_in l.steps l.i) l.security l.quantity l.initial.positions)

@@ -10,7 +10,6 @@ use Rattle.booking.proofs.Days.{book_on}
 use Rattle.booking.proofs.Settled.{by_length, by_halves, by_chain, by_booking, done, booking_open}
 use Rattle.booking.proofs.settling.settle.Goals as goal
 
--- Each number in turn decides as the definition has it; where none does, the steps and the payment judged are those booked.
 pub returns-then-steps-ne-STEP_NUMBERS : goal.returns-then-steps-ne-STEP_NUMBERS
 returns-then-steps-ne-STEP_NUMBERS c =
     let a = c.args in

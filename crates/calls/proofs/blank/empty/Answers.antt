@@ -3,7 +3,6 @@ use mathlib.Core.Path.{refl}
 use Rattle.rules.specs.Entries.{empty_directory}
 use Rattle.calls.proofs.blank.empty.Goals as goal
 
--- The record as it stands.
 pub returns : goal.returns
 unfolding empty_directory
 returns c = refl

@@ -3,7 +3,6 @@ use Rattle.rules.specs.Calls.{ordered}
 use Rattle.chain.proofs.Deriving.{handed}
 use Rattle.calls.proofs.chaining.derive_reply.Goals as goal
 
--- Halves in order: nothing is asked of their sides.
 pub derived-requires : goal.derived-requires
 derived-requires c =
     let a = c.args in

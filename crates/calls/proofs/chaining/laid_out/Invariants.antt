@@ -10,7 +10,6 @@ use Rattle.rules.specs.Outcomes.{blanks}
 use Rattle.calls.proofs.Stored.{stored, laid}
 use Rattle.calls.proofs.chaining.laid_out.Given as goal
 
--- The loop's invariant: the first i steps are stored on blank rows.
 abbrev pub invariant-loop-i : goal.invariant-loop-i
 invariant-loop-i l = (l.i ≤ l.n) × (l.rows ≡ stored (step_at l.numbers) l.i (blanks step_limit))
 

@@ -4,7 +4,6 @@ use Rattle.chain.proofs.Deriving.{handed}
 use borrow.Author.Rules.{rules}
 use Rattle.calls.proofs.chaining.settle_reply.Goals as goal
 
--- Halves in order: nothing is asked of their sides.
 pub settled-requires : goal.settled-requires
 settled-requires c =
     let a = c.args in

@@ -6,7 +6,6 @@ use Rattle.calls.proofs.Admitted.{nothing_kept_lem}
 use Rattle.calls.proofs.Decided.{settlement_refused, settlement_few, settlement_passed}
 use Rattle.calls.proofs.chaining.settled.Goals as goal
 
--- 3 and 4 first; else the stream's settlement, its steps laid out.
 pub early_refusal-number-requires : goal.early_refusal-number-requires
 early_refusal-number-requires c = nothing_kept_lem
 

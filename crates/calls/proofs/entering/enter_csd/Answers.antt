@@ -6,7 +6,6 @@ use Rattle.calls.proofs.Admitted.{nothing_kept_lem}
 use Rattle.calls.proofs.Entries.{unsound, refuses, roomy, accepts}
 use Rattle.calls.proofs.entering.enter_csd.Goals as goal
 
--- 4 on an unsound directory; else the row's refusal, or the row is added.
 pub early_refusal-number-requires : goal.early_refusal-number-requires
 early_refusal-number-requires c = nothing_kept_lem
 

@@ -4,7 +4,6 @@ use mathlib.Core.Path.{◌∙◌}
 use Rattle.calls.proofs.Decided.{cash_misfit, cash_passed}
 use Rattle.calls.proofs.moving.cash_total.Goals as goal
 
--- 3 first; else the sum of all balances.
 pub returns-then-cash-ne-ACCOUNTS : goal.returns-then-cash-ne-ACCOUNTS
 returns-then-cash-ne-ACCOUNTS c = cash_misfit c.args.cash.now c.if-cash-ne-ACCOUNTS.true
 

@@ -5,7 +5,6 @@ use Rattle.calls.proofs.Admitted.{nothing_kept_lem}
 use Rattle.calls.proofs.Decided.{movement_refused, movement_passed}
 use Rattle.calls.proofs.moving.movement.Goals as goal
 
--- 3 and 4 first; else what the stream's function answers and leaves over the index.
 pub early_refusal-number-requires : goal.early_refusal-number-requires
 early_refusal-number-requires c = nothing_kept_lem
 

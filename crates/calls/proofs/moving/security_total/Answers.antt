@@ -5,7 +5,6 @@ use Rattle.calls.proofs.Admitted.{nothing_kept_lem}
 use Rattle.calls.proofs.Decided.{total_refused, total_passed}
 use Rattle.calls.proofs.moving.security_total.Goals as goal
 
--- 3 and 4 first; else the sum of participant positions.
 pub early_refusal-number-requires : goal.early_refusal-number-requires
 early_refusal-number-requires c = nothing_kept_lem
 

@@ -9,7 +9,6 @@ use Rattle.chain.proofs.Linking.{found_none, chain_inside}
 use Rattle.chain.proofs.Deriving.{chain_misfit, chain_fits}
 use Rattle.chain.proofs.derivation.chain_of.Goals as goal
 
--- The accounts' CSDs: one step where they are the same, else the route between them and the steps along it.
 pub returns-then-steps-ne-STEP_NUMBERS : goal.returns-then-steps-ne-STEP_NUMBERS
 returns-then-steps-ne-STEP_NUMBERS c =
     let a = c.args in

@@ -6,7 +6,6 @@ use Rattle.halves.proofs.Days.{halves_on}
 use Rattle.chain.proofs.Deriving.{derives_misfit, derives_halves, derives_refused, derives_chained}
 use Rattle.chain.proofs.derivation.derive.Goals as goal
 
--- The lent list's refusal, the halves', then the chain's, else its steps and their number.
 pub returns-then-steps-ne-STEP_NUMBERS : goal.returns-then-steps-ne-STEP_NUMBERS
 returns-then-steps-ne-STEP_NUMBERS c =
     let a = c.args in

@@ -8,7 +8,6 @@ use Rattle.chain.proofs.StepList.{length_step}
 use Rattle.chain.proofs.Putting.{Turning, turns_one, turns_none}
 use Rattle.chain.proofs.steps.add_turned.Given as goal
 
--- The loop's invariant: what adds the steps left, turned, adds the whole side turned.
 abbrev pub invariant-loop-i : goal.invariant-loop-i
 invariant-loop-i l = (l.i ≤ l.left) × (l.n + l.i ≡ l.count + l.left) × (length l.steps ≡ length l.initial.steps) × Turning l.side l.initial.steps l.count l.left l.i l.steps l.n
 

@@ -15,7 +15,6 @@ use Rattle.chain.proofs.StepList.{steps_none, length_step, one_more_lem}
 use Rattle.chain.proofs.Climbing.{Climbs, climb_starts, climb_ends, climb_fails, climb_goes_on}
 use Rattle.chain.proofs.steps.climb_side.Given as goal
 
--- The loop's invariant: the steps put, before the climb from here on, are the whole climb.
 abbrev pub invariant-loop-i : goal.invariant-loop-i
 invariant-loop-i l =
     (l.i < side_limit)

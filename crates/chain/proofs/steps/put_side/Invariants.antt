@@ -10,7 +10,6 @@ use Rattle.chain.proofs.StepList.{length_step}
 use Rattle.chain.proofs.Putting.{side_starts, side_goes_on}
 use Rattle.chain.proofs.steps.put_side.Given as goal
 
--- The loop's invariant: the first i steps of the side are put.
 abbrev pub invariant-loop-i : goal.invariant-loop-i
 invariant-loop-i l = (l.i ≤ l.count) × (length l.steps ≡ length l.initial.steps) × Adds l.initial.steps 0 (steps_in l.side l.i) l.steps l.i
 

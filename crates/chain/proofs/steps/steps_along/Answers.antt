@@ -13,7 +13,6 @@ use Rattle.chain.proofs.StepList.{holds_none}
 use Rattle.chain.proofs.Linking.{found_none, found_steps, along_refused, along_unpaired, along_paired}
 use Rattle.chain.proofs.steps.steps_along.Goals as goal
 
--- The route's refusal, 18 where a pair is missing, or the steps of both sides with what stands between.
 pub returns-then-route-ne0 : goal.returns-then-route-ne0
 returns-then-route-ne0 c =
     let a = c.args in

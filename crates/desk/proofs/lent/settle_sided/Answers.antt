@@ -16,8 +16,7 @@ returns c =
     let a = c.args in
     let reply = c.settle_sided_reply-reply in
     let r = settlement_serves a.directory a.steps.now (sided a.first a.second) a.day a.positions.now a.cash.now reply.result reply.ensures.0 in
-    let left = settlement_store a.directory a.steps.now (sided a.first a.second) a.day a.positions.now a.cash.now in
-    (
+    let left = settlement_store a.directory a.steps.now (sided a.first a.second) a.day a.positions.now a.cash.now in (
       c.finish.ensures.0 ∙ r.answer,
       reply.ensures.1 ∙ ap (λ (st : Store). st.positions) left,
       reply.ensures.2 ∙ ap (λ (st : Store). st.cash) left,

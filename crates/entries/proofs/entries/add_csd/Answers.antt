@@ -10,8 +10,7 @@ use Rattle.entries.proofs.entries.add_csd.Goals as goal
 
 pub returns : goal.returns
 unfolding counted with_csd with_bic
-returns c =
-    (
-      c.count_on.ensures ∙ rw (c.store.ensures, c.entry-n.ensures),
-      c.put_bic.ensures ∙ rw (c.entry-n.ensures, take_all bic_size c.args.row.bic (omega (arith, (let h : length c.args.row.bic ≡ bic_size = search rules in h)))),
-    )
+returns c = (
+  c.count_on.ensures ∙ rw (c.store.ensures, c.entry-n.ensures),
+  c.put_bic.ensures ∙ rw (c.entry-n.ensures, take_all bic_size c.args.row.bic (omega (arith, (let h : length c.args.row.bic ≡ bic_size = search rules in h)))),
+)

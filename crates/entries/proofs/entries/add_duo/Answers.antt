@@ -6,7 +6,6 @@ use Rattle.entries.specs.Entered.{with_duo}
 use borrow.Author.Rules.{rules}
 use Rattle.entries.proofs.entries.add_duo.Goals as goal
 
--- Hex FFFF is left alone; for another account the four numbers are stored one after another.
 pub returns-then-account-eq-NO_ACCOUNT : goal.returns-then-account-eq-NO_ACCOUNT
 unfolding with_duo
 returns-then-account-eq-NO_ACCOUNT c = rw (eq-eqb c.args.account no_account c.if-account-eq-NO_ACCOUNT.true)

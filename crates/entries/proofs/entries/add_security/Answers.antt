@@ -10,8 +10,7 @@ use Rattle.entries.proofs.entries.add_security.Goals as goal
 
 pub returns : goal.returns
 unfolding counted with_security with_isin
-returns c =
-    (
-      c.count_on.ensures,
-      c.put_isin.ensures ∙ rw (c.entry-n.ensures, take_all isin_size c.args.row.isin (omega (arith, (let h : length c.args.row.isin ≡ isin_size = search rules in h)))),
-    )
+returns c = (
+  c.count_on.ensures,
+  c.put_isin.ensures ∙ rw (c.entry-n.ensures, take_all isin_size c.args.row.isin (omega (arith, (let h : length c.args.row.isin ≡ isin_size = search rules in h)))),
+)

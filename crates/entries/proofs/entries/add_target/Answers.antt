@@ -4,7 +4,6 @@ use Rattle.entries.specs.Entered.{with_target}
 use borrow.Author.Rules.{rules}
 use Rattle.entries.proofs.entries.add_target.Goals as goal
 
--- Only an investor link has one.
 pub returns-then-row-ne1 : goal.returns-then-row-ne1
 unfolding with_target
 returns-then-row-ne1 c = rw (ne_eqb c.args.row.kind 1 c.if-row-ne1.true)

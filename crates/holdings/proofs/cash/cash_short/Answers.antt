@@ -7,7 +7,6 @@ use mir.Val.{SFits}
 use Rattle.rules.specs.Booking.{cash_short}
 use Rattle.holdings.proofs.cash.cash_short.Goals as goal
 
--- An amount of 0 is never short; any other is held against the balance.
 pub returns-then-amount-eq0 : goal.returns-then-amount-eq0
 unfolding cash_short
 returns-then-amount-eq0 c = rw c.if-amount-eq0.true

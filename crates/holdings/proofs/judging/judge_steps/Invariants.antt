@@ -9,7 +9,6 @@ use Rattle.chain.specs.StepList.{steps_in}
 use Rattle.holdings.proofs.Listed.{short_more, beyond_more, short_none, beyond_none}
 use Rattle.holdings.proofs.judging.judge_steps.Given as goal
 
--- What was found so far is what the tests find in the steps so far.
 abbrev pub invariant-loop-i : goal.invariant-loop-i
 invariant-loop-i l =
     (l.i ≤ l.count)

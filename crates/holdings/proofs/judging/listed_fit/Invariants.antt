@@ -11,7 +11,6 @@ use Rattle.holdings.specs.Fitting.{none_unfit}
 use Rattle.holdings.proofs.Fitting.{fit_none, fit_more, unfit_debit, unfit_credit}
 use Rattle.holdings.proofs.judging.listed_fit.Given as goal
 
--- The steps so far fit; the first that does not is one of those asked for.
 abbrev pub invariant-loop-i : goal.invariant-loop-i
 invariant-loop-i l =
     (l.i ≤ l.count) × (none_unfit (asked l.index).kind l.positions l.security l.quantity (steps_in l.steps l.i) ≡ true)

@@ -9,7 +9,6 @@ use Rattle.chain.specs.StepList.{step_numbers}
 use Rattle.holdings.specs.Fitting.{steps_fit}
 use Rattle.holdings.proofs.judging.steps_fit.Goals as goal
 
--- A quantity out of range, another list or too many steps; else the steps decide.
 pub returns-then-quantity-gt-LIMIT : goal.returns-then-quantity-gt-LIMIT
 unfolding steps_fit
 returns-then-quantity-gt-LIMIT c =

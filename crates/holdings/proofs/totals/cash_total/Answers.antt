@@ -34,10 +34,13 @@ plus_cents-sum-requires c =
     simp to_z-of_z at c.is_beyond.ensures in h) ∙ c.if-is_beyond.false) in h).small
 
 pub loop-account-preserved : goal.loop-account-preserved
-loop-account-preserved c = (omega arith, rw c.plus_cents-sum.ensures (let h : let a = c.args in Summed every_account (cash_on a.cash.now) (c.loop-account.account + 1) (c.loop-account.sum.0 +ℤ c.balance_of-held.result.0) = let a = c.args in
-    summed_next every_account (cash_on a.cash.now) c.loop-account.account c.loop-account.sum.0 c.balance_of-held.result.0 c.loop-account.invariant.1
-    (ap (λ x. x.0) c.balance_of-held.ensures) (sym (let h : c.is_beyond.result ≡ beyond c.balance_of-held.result.0 = let f : SFits w64 c.balance_of-held.result.0 = sfits_of c.struct_told-1.given.0.1 in
-    simp to_z-of_z at c.is_beyond.ensures in h) ∙ c.if-is_beyond.false) in h))
+loop-account-preserved c = (
+  omega arith,
+  rw c.plus_cents-sum.ensures (let h : let a = c.args in Summed every_account (cash_on a.cash.now) (c.loop-account.account + 1) (c.loop-account.sum.0 +ℤ c.balance_of-held.result.0) = let a = c.args in
+      summed_next every_account (cash_on a.cash.now) c.loop-account.account c.loop-account.sum.0 c.balance_of-held.result.0 c.loop-account.invariant.1
+      (ap (λ x. x.0) c.balance_of-held.ensures) (sym (let h : c.is_beyond.result ≡ beyond c.balance_of-held.result.0 = let f : SFits w64 c.balance_of-held.result.0 = sfits_of c.struct_told-1.given.0.1 in
+      simp to_z-of_z at c.is_beyond.ensures in h) ∙ c.if-is_beyond.false) in h),
+)
 
 pub returns : goal.returns
 returns c =

@@ -12,7 +12,6 @@ use Rattle.holdings.proofs.Bounds.{within_fits}
 use Rattle.holdings.proofs.Summed.{Summed, summed_none, summed_next, beyond_at, cash_refused, cash_summed}
 use Rattle.holdings.proofs.totals.cash_total.Given as goal
 
--- Account by account the sum is the sum so far; the first balance beyond ends it.
 abbrev pub invariant-loop-account : goal.invariant-loop-account
 invariant-loop-account l = (l.account ≤ cash_count) × Summed every_account (cash_on l.cash) l.account l.sum.0
 

@@ -37,8 +37,11 @@ plus_units-sum-requires c =
     simp to_z-of_z at c.is_beyond.ensures in h) ∙ c.if-is_beyond.false) in h).small
 
 pub loop-account-preserved : goal.loop-account-preserved
-loop-account-preserved c = (omega arith, rw c.plus_units-sum.ensures (let h : let a = c.args in Summed (participants (asked a.index.now).kind) (held_in a.positions.now a.security) (c.loop-account.account + 1) (c.loop-account.sum.0 +ℤ c.counted-held.result.0) = let a = c.args in
-    let counted = c.counted-held in
-    summed_next (participants (asked a.index.now).kind) (held_in a.positions.now a.security) c.loop-account.account c.loop-account.sum.0
-    counted.result.0 c.loop-account.invariant.1 counted.ensures (sym (let h : c.is_beyond.result ≡ beyond c.counted-held.result.0 = let f : SFits w64 c.counted-held.result.0 = sfits_of c.struct_told-1.given.0.1 in
-    simp to_z-of_z at c.is_beyond.ensures in h) ∙ c.if-is_beyond.false) in h))
+loop-account-preserved c = (
+  omega arith,
+  rw c.plus_units-sum.ensures (let h : let a = c.args in Summed (participants (asked a.index.now).kind) (held_in a.positions.now a.security) (c.loop-account.account + 1) (c.loop-account.sum.0 +ℤ c.counted-held.result.0) = let a = c.args in
+      let counted = c.counted-held in
+      summed_next (participants (asked a.index.now).kind) (held_in a.positions.now a.security) c.loop-account.account c.loop-account.sum.0
+      counted.result.0 c.loop-account.invariant.1 counted.ensures (sym (let h : c.is_beyond.result ≡ beyond c.counted-held.result.0 = let f : SFits w64 c.counted-held.result.0 = sfits_of c.struct_told-1.given.0.1 in
+      simp to_z-of_z at c.is_beyond.ensures in h) ∙ c.if-is_beyond.false) in h),
+)

@@ -14,7 +14,6 @@ use Rattle.holdings.proofs.Bounds.{within_fits}
 use Rattle.holdings.proofs.Summed.{Summed, summed_none, summed_next, beyond_at, units_refused, units_summed}
 use Rattle.holdings.proofs.totals.participant_total.Given as goal
 
--- Account by account the sum is the sum so far; the first position beyond ends it.
 abbrev pub invariant-loop-account : goal.invariant-loop-account
 invariant-loop-account l =
     (l.account ≤ account_limit) × Summed (participants (asked l.index).kind) (held_in l.positions l.security) l.account l.sum.0

@@ -10,7 +10,6 @@ use Rattle.identifiers.specs.Sums.{sums_of}
 use Rattle.index.proofs.Laws.{ahead, over}
 use Rattle.identifiers.proofs.check_digit.isin_sum.Given as goal
 
--- The loop's invariant: from the sums kept, the characters ahead lead to the sum of all.
 abbrev pub invariant-loop-i : goal.invariant-loop-i
 invariant-loop-i l = (l.i ≤ 11) × (l.s.last + l.s.other ≤ 800 * l.i) × (read_from (sums_of l.s) (drop l.i (take 11 l.isin)) ≡ read_from (record { last = 0; other = 0 }) (take 11 l.isin))
 

@@ -12,7 +12,6 @@ use Rattle.rules.specs.Identifiers.{capital_or_digit}
 use Rattle.index.proofs.Laws.{all_more, all_miss}
 use Rattle.identifiers.proofs.forms.are_capitals_or_digits.Given as goal
 
--- The loop's invariant: the bytes passed are capitals or digits.
 abbrev pub fits : List ℕ → ℕ → ℕ → Bool
 fits s from k = capital_or_digit (get_or s (from + k) 0)
 

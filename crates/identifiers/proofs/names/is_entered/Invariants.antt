@@ -11,7 +11,6 @@ use Rattle.identifiers.proofs.Laws.{none_more, any_hit}
 use native.Mathlib.Omega.{arith}
 use Rattle.identifiers.proofs.names.is_entered.Given as goal
 
--- The loop's invariant: none of the identifiers passed is the bytes.
 -- the identifier of row i is the bytes
 abbrev pub test : List ℕ → ℕ → List ℕ → ℕ → Bool
 test names from bytes i = stands names (from + length bytes * i) bytes

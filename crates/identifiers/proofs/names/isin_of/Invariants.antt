@@ -8,7 +8,6 @@ use borrow.Author.Rules.{rules}
 use native.Mathlib.Omega.{arith}
 use Rattle.identifiers.proofs.names.isin_of.Given as goal
 
--- The loop's invariant: the bytes passed are the list's.
 abbrev pub invariant-loop-i : goal.invariant-loop-i
 invariant-loop-i l = (l.i ≤ isin_size) × (length l.isin ≡ isin_size) × ((k : ℕ) → k < l.i → get_or l.isin k 0 ≡ name_byte l.names (l.from + k))
 

@@ -9,7 +9,6 @@ use borrow.Author.Rules.{rules}
 use native.Mathlib.Omega.{arith}
 use Rattle.identifiers.proofs.names.put_bytes.Given as goal
 
--- The loop's invariant: the bytes ahead put into the list as it is make the list that is due.
 abbrev pub invariant-loop-i : goal.invariant-loop-i
 invariant-loop-i l = (l.i ≤ length l.bytes) × (with_bytes l.names (l.place + l.i) (drop l.i l.bytes) ≡ with_bytes l.initial.names l.place l.bytes)
 

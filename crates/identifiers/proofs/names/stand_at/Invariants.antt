@@ -14,7 +14,6 @@ use borrow.Author.Rules.{rules}
 use native.Mathlib.Omega.{arith}
 use Rattle.identifiers.proofs.names.stand_at.Given as goal
 
--- The loop's invariant: whether the bytes passed stand in the list.
 -- byte k of the bytes stands k behind the place
 abbrev pub same_at : List ℕ → ℕ → List ℕ → ℕ → Bool
 same_at names place bytes k = eqb (name_byte names (place + k)) (byte_at bytes k)

@@ -14,7 +14,6 @@ use Rattle.index.specs.Found.{code_from, found_by}
 use borrow.Author.Rules.{rules}
 use Rattle.index.proofs.links.find_link.Given as goal
 
--- The loop's invariant: what is found from the newest link on is what is found from this one on.
 -- a link that is looked for and has a day among these
 abbrev pub test : ℕ → ℕ → Wanted → Link → Bool
 test first last wanted x = has_day_in first last x && wants wanted x

@@ -19,7 +19,6 @@ use Rattle.index.specs.Found.{code_from, found_by}
 use borrow.Author.Rules.{rules}
 use Rattle.index.proofs.links.has_link_to.Given as goal
 
--- What is no target has no link to it; for a target the loop's invariant: what is found from the newest link on is what is found from this one on.
 -- an investor link of the day to the technical issuer
 abbrev pub test : ℕ → ℕ → Link → Bool
 test technical day x = covers day x && points_to technical x

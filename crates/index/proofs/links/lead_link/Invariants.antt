@@ -13,7 +13,6 @@ use Rattle.index.specs.Found.{code_from, found_by}
 use borrow.Author.Rules.{rules}
 use Rattle.index.proofs.links.lead_link.Given as goal
 
--- The loop's invariant: what is found from the newest link on is what is found from this one on.
 -- an issuer link or a default link of the day
 abbrev pub test : ℕ → Link → Bool
 test day x = covers day x && leads x

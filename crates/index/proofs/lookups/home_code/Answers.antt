@@ -7,7 +7,6 @@ use Rattle.index.proofs.Read.{read_in, read_off}
 use borrow.Author.Rules.{rules}
 use Rattle.index.proofs.lookups.home_code.Goals as goal
 
--- The list has it at its place; beyond the table it is 0.
 pub returns-then-a-ge-ACCOUNTS : goal.returns-then-a-ge-ACCOUNTS
 returns-then-a-ge-ACCOUNTS c = let a = c.args in read_off a.index.now (home_at a.account) (le-ltb a.account 256 (omega arith))
 

@@ -5,7 +5,6 @@ use Rattle.index.specs.Asked.{read, asked_by}
 use borrow.Author.Rules.{rules}
 use Rattle.index.proofs.lookups.is_apart.Goals as goal
 
--- An account beyond the table is in no duo; else the list has whether it is in one, and in which.
 pub returns-then-a-ge-ACCOUNTS : goal.returns-then-a-ge-ACCOUNTS
 unfolding asked_by read
 returns-then-a-ge-ACCOUNTS c = rw (le-ltb c.args.account 256 (omega arith))

@@ -11,7 +11,6 @@ use Rattle.index.proofs.Read.{read_in}
 use borrow.Author.Rules.{rules}
 use Rattle.index.proofs.lookups.served_code.Goals as goal
 
--- The list has it, if both are within the tables.
 pub returns-then-t-ge-CSDS : goal.returns-then-t-ge-CSDS
 unfolding read
 returns-then-t-ge-CSDS c = rw (le-ltb c.args.technical csd_limit (omega arith))

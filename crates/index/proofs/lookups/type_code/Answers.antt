@@ -7,7 +7,6 @@ use Rattle.index.proofs.Read.{read_in, read_off}
 use borrow.Author.Rules.{rules}
 use Rattle.index.proofs.lookups.type_code.Goals as goal
 
--- The list has it at its place; beyond the table it is 0.
 pub returns-then-c-ge-CSDS : goal.returns-then-c-ge-CSDS
 returns-then-c-ge-CSDS c = let a = c.args in read_off a.index.now (type_at a.csd) (le-ltb a.csd 32 (omega arith))
 

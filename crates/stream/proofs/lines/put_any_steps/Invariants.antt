@@ -11,7 +11,6 @@ use Rattle.text.proofs.Appends.{no_bytes, named}
 use Rattle.stream.proofs.Telling.{step_more}
 use Rattle.stream.proofs.lines.put_any_steps.Given as goal
 
--- `stream::lines::put_any_steps` meets its contract: so far the lines of the first steps are appended. Assumes nothing.
 abbrev pub invariant-loop-i : goal.invariant-loop-i
 invariant-loop-i l =
     (l.i ≤ l.k) × (length l.out ≡ length l.initial.out) × Appended l.initial.out l.at l.out l.end (step_lines (steps_in l.steps l.i))

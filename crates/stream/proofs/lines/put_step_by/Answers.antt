@@ -15,7 +15,6 @@ use Rattle.stream.proofs.Table.{text_long}
 use Rattle.stream.proofs.Backwards.{nothing, ahead, closed}
 use Rattle.stream.proofs.lines.put_step_by.Goals as goal
 
--- `stream::lines::put_step_by` meets its contract: three texts, each before the one behind it, and two bytes in front of them. Assumes nothing.
 -- a line takes at most 20 bytes
 short : {out out' : List ℕ} {at end : ℕ} (step : Step) → Appended out at out' end (step_line step)
     → step.csd < 10 ^ 3 → step.debited < 10 ^ 5 → step.credited < 10 ^ 5 → end ≤ at + 20

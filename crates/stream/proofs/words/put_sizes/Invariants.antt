@@ -9,7 +9,6 @@ use Rattle.stream.specs.Words.{sizes_to}
 use Rattle.stream.proofs.Table.{no_sizes, size_more, all_sizes}
 use Rattle.stream.proofs.words.put_sizes.Given as goal
 
--- `stream::words::put_sizes` meets its contract: so far the sizes of the first numbers stand there. Assumes nothing.
 abbrev pub invariant-loop-n : goal.invariant-loop-n
 invariant-loop-n l = (l.n ≤ 1_000) × (1 ≤ l.n → length l.sizes ≡ 1_000) × (take l.n l.sizes ≡ sizes_to l.n)
 

@@ -10,7 +10,6 @@ use Rattle.stream.specs.Words.{word_of, words_to}
 use Rattle.stream.proofs.Table.{no_words, word_more, all_words}
 use Rattle.stream.proofs.words.put_words.Given as goal
 
--- `stream::words::put_words` meets its contract: so far the words of the first numbers stand there. Assumes nothing.
 abbrev pub invariant-loop-n : goal.invariant-loop-n
 invariant-loop-n l = (l.n ≤ 1_000) × (1 ≤ l.n → length l.words ≡ 4_000) × (take (4 * l.n) l.words ≡ words_to l.last l.n)
 

@@ -8,7 +8,6 @@ use Rattle.text.specs.Appended.{Appended}
 use Rattle.text.proofs.Appends.{no_bytes, more, named}
 use Rattle.text.proofs.pieces.put_word.Given as goal
 
--- `text::pieces::put_word` meets its contract: so far the word's first bytes are appended. Assumes nothing.
 abbrev pub invariant-loop-i : goal.invariant-loop-i
 invariant-loop-i l = (l.i ≤ length l.word) × Appended l.initial.out l.at l.out l.end (take l.i l.word)
 

@@ -10,7 +10,6 @@ use Rattle.walks.specs.Sides.{named}
 use Rattle.walks.proofs.Paths.{Agree, take_named, named_at, none_agree, one_more_lem, no_more}
 use Rattle.walks.proofs.routes.common_end.Given as goal
 
--- The loop's invariant: the last k CSDs of both sides are the same.
 abbrev pub invariant-loop-k : goal.invariant-loop-k
 invariant-loop-k l = Agree (take l.m l.up) (take l.n l.down) l.k
 

@@ -16,7 +16,6 @@ use Rattle.walks.proofs.Paths.{take_named}
 use borrow.Author.Rules.{rules}
 use Rattle.walks.proofs.routes.turns_along.Given as goal
 
--- The loop's invariant: what the CSDs tell, those from this one on tell.
 abbrev pub test : List ℕ → ℕ → ℕ → ℕ → ℕ → Bool
 test index day security target = turns (asked_on index day) security target
 

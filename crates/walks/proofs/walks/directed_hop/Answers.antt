@@ -6,7 +6,6 @@ use Rattle.walks.proofs.Days.{outside_on}
 use borrow.Author.Rules.{rules}
 use Rattle.walks.proofs.walks.directed_hop.Goals as goal
 
--- The target, a link to it, then the default hop; an external CSD ends the walk whether it has a link or not.
 pub returns-then-csd-target : goal.returns-then-csd-target
 unfolding directed_hop
 returns-then-csd-target c = rw (eq-eqb _ _ c.if-csd-target.true)

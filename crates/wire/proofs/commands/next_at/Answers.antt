@@ -4,7 +4,6 @@ use borrow.Author.Rules.{rules}
 use Rattle.wire.proofs.Found.{finds_end, finds_unknown, finds_cut, finds_command}
 use Rattle.wire.proofs.commands.next_at.Goals as goal
 
--- `wire::commands::next_at` meets its contract: each answer by the tests that lead to it. Assumes nothing.
 pub returns-then-input-at : goal.returns-then-input-at
 returns-then-input-at c = sym (finds_end _ _ c.if-input-at.true)
 
