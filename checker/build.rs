@@ -1,14 +1,14 @@
-//! Finds the proved library. `rt staticlib probe`, at the root of the repository, writes it.
+//! Finds the proved library. `rt lib probe`, at the root of the repository, writes it.
 
 use std::path::Path;
 
 fn main() {
-    let folder = Path::new(env!("CARGO_MANIFEST_DIR")).join("../target/staticlib");
+    let folder = Path::new(env!("CARGO_MANIFEST_DIR")).join("../crates/probe/out");
     let archive = folder.join("libprobe.a");
     println!("cargo:rerun-if-changed={}", archive.display());
     assert!(
         archive.is_file(),
-        "target/staticlib/libprobe.a is missing: run `rt staticlib probe` at the root of the repository"
+        "crates/probe/out/libprobe.a is missing: run `rt lib probe` at the root of the repository"
     );
     println!("cargo:rustc-link-search=native={}", folder.display());
     println!("cargo:rustc-link-lib=static=probe");

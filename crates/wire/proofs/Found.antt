@@ -12,7 +12,6 @@ use lib.Seq.{drop-cons, drop-drop, length-take-le}
 use borrow.Author.Tests.{lt-ltb, le-ltb, ltb-false}
 use Rattle.rules.specs.Stream as Rules
 use Rattle.rules.specs.Stream.{next_of, by_width, width_of, ended, unknown, cut, command}
-use Rattle.wire.specs.declared.commands.Next.{Next}
 use Rattle.wire.specs.declared.commands.Next.TheVariants.{End, Unknown, Cut, Command}
 use Rattle.wire.specs.declared.commands.Width.TheVariants.{Bytes, NoCommand}
 use Rattle.wire.specs.Commands.{width_in, placed, next_at}

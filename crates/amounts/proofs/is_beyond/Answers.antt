@@ -1,5 +1,4 @@
 -- Beyond is a test of the size.
-use borrow.Author.Rules.{rules}
 use mathlib.Core.Path.{ap}
 use lib.Dec.{ltb}
 use mir.Facts.{to_z-of_z}

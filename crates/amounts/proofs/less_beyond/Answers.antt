@@ -1,5 +1,4 @@
 -- With n less, the size of a number below 0 and n add up; else they are set against each other.
-use borrow.Author.Rules.{rules}
 use mathlib.Core.Path.{◌∙◌}
 use mir.Facts.{to_z-of_z}
 use Rattle.amounts.proofs.Sizes.{less_of_below, less_of_count}

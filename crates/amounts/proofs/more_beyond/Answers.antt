@@ -1,5 +1,4 @@
 -- With n more, the size of a number below 0 and n are set against each other; else they add up.
-use borrow.Author.Rules.{rules}
 use mathlib.Core.Path.{◌∙◌}
 use mir.Facts.{to_z-of_z}
 use Rattle.amounts.proofs.Sizes.{more_of_below, more_of_count}

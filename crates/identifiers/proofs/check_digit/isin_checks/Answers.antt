@@ -1,6 +1,5 @@
 -- The sum with the check digit.
 use Rattle.rules.specs.Identifiers.{isin_checks}
-use borrow.Author.Rules.{rules}
 use Rattle.identifiers.proofs.check_digit.isin_checks.Goals as goal
 
 pub returns : goal.returns

@@ -1,12 +1,10 @@
 -- The loop's invariant: from the sums kept, the characters ahead lead to the sum of all.
 use borrow.Author.Rules.{rules}
-use Prim.Native.Nat.{◌+◌, ◌*◌, ◌≤◌, ◌-◌}
-use mathlib.Core.Path.{◌≡◌, refl, ap, ◌∙◌}
-use lib.ListN.{length, take, drop}
+use mathlib.Core.Path.{◌≡◌, ap, ◌∙◌}
+use lib.ListN.{length, take}
 use native.Mathlib.Omega.{arith}
 use Rattle.rules.specs.Identifiers.{Sums, read_from, isin_sum_left}
 use Rattle.rules.proofs.Identifiers.{left_is_right}
-use Rattle.identifiers.specs.Sums.{sums_of}
 use Rattle.index.proofs.Laws.{ahead, over}
 use Rattle.identifiers.proofs.check_digit.isin_sum.Goals as goal
 

@@ -1,15 +1,11 @@
 -- The loop's invariant: the bytes passed are capitals or digits.
-use borrow.Author.Rules.{rules}
 use Prim.Native.Nat.{ℕ, ◌+◌, ◌≤◌, ◌-◌}
-use mathlib.Core.Path.{◌≡◌, refl, sym, ◌∙◌}
+use mathlib.Core.Path.{◌≡◌}
 use mathlib.Core.Bool.{Bool, true}
 use mathlib.Core.List.{List}
 use lib.ListN.{get_or}
-use native.Mathlib.Omega.{arith}
-use borrow.Author.Tests.{not-true, not-false}
 use Rattle.rules.specs.Tests.{all_below}
 use Rattle.rules.specs.Identifiers.{capital_or_digit}
-use Rattle.index.proofs.Laws.{all_more, all_miss}
 use Rattle.identifiers.proofs.forms.are_capitals_or_digits.Given as goal
 
 abbrev pub fits : List ℕ → ℕ → ℕ → Bool

@@ -1,7 +1,6 @@
 -- All 11 bytes are capitals or digits.
 use native.Mathlib.Nat.{zero-add}
 use Rattle.rules.specs.Identifiers.{is_bic}
-use borrow.Author.Rules.{rules}
 use Rattle.identifiers.proofs.forms.is_bic.Goals as goal
 
 pub returns : goal.returns

@@ -1,6 +1,5 @@
 -- Its three parts, each by its own test.
 use Rattle.rules.specs.Identifiers.{is_isin}
-use borrow.Author.Rules.{rules}
 use Rattle.identifiers.proofs.forms.is_isin.Goals as goal
 
 pub returns : goal.returns

@@ -1,7 +1,6 @@
 -- The search of the rows in use.
 use mathlib.Core.Path.{◌≡◌}
 use native.Mathlib.Nat.{zero-add}
-use native.Mathlib.Omega.{arith}
 use lib.ListN.{length}
 use Rattle.index.specs.Asked.{read}
 use Rattle.identifiers.specs.Names.{bic_size, bic_in}

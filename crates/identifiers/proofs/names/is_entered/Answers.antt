@@ -1,12 +1,6 @@
 -- The loop's invariant: none of the identifiers passed is the bytes.
-use Prim.Native.Nat.{ℕ, ◌+◌, ◌*◌, ◌≤◌, ◌-◌}
-use mathlib.Core.Path.{◌≡◌, refl, sym, ◌∙◌}
-use mathlib.Core.Bool.{Bool, false}
-use mathlib.Core.List.{List}
-use native.Mathlib.Nat.{mul-le-mul}
-use lib.ListN.{length}
-use Rattle.rules.specs.Directory.{csd_limit}
-use Rattle.identifiers.specs.Names.{stands, any_below}
+use mathlib.Core.Path.{refl, sym, ◌∙◌}
+use Rattle.identifiers.specs.Names.{any_below}
 use Rattle.identifiers.proofs.Laws.{none_more, any_hit}
 use native.Mathlib.Omega.{arith}
 use Rattle.identifiers.proofs.names.is_entered.Invariants.{test}

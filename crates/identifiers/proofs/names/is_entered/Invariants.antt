@@ -1,14 +1,10 @@
 -- The loop's invariant: none of the identifiers passed is the bytes.
 use Prim.Native.Nat.{ℕ, ◌+◌, ◌*◌, ◌≤◌, ◌-◌}
-use mathlib.Core.Path.{◌≡◌, refl, sym, ◌∙◌}
+use mathlib.Core.Path.{◌≡◌}
 use mathlib.Core.Bool.{Bool, false}
 use mathlib.Core.List.{List}
-use native.Mathlib.Nat.{mul-le-mul}
 use lib.ListN.{length}
-use Rattle.rules.specs.Directory.{csd_limit}
 use Rattle.identifiers.specs.Names.{stands, any_below}
-use Rattle.identifiers.proofs.Laws.{none_more, any_hit}
-use native.Mathlib.Omega.{arith}
 use Rattle.identifiers.proofs.names.is_entered.Given as goal
 
 -- the identifier of row i is the bytes

@@ -1,6 +1,5 @@
 -- The search of the rows in use.
 use mathlib.Core.Path.{◌≡◌}
-use native.Mathlib.Omega.{arith}
 use lib.ListN.{length}
 use Rattle.index.specs.Asked.{read}
 use Rattle.identifiers.specs.Names.{isin_size, isin_in}

@@ -1,10 +1,8 @@
 -- The loop's invariant: the bytes passed are the list's.
-use Prim.Native.Nat.{ℕ, ◌+◌, ◌*◌, ◌-◌, ◌≤◌, ◌<◌}
-use mathlib.Core.Path.{◌≡◌, refl}
-use lib.ListN.{length, get_or, length-set}
-use Rattle.identifiers.specs.Names.{isins, isin_size, name_byte}
-use Rattle.identifiers.proofs.Laws.{one_read, all_read}
-use borrow.Author.Rules.{rules}
+use Prim.Native.Nat.{◌+◌, ◌*◌}
+use mathlib.Core.Path.{◌≡◌}
+use Rattle.identifiers.specs.Names.{isins, isin_size}
+use Rattle.identifiers.proofs.Laws.{all_read}
 use native.Mathlib.Omega.{arith}
 use Rattle.identifiers.proofs.names.isin_of.Goals as goal
 

@@ -1,11 +1,8 @@
 -- The loop's invariant: the bytes passed are the list's.
-use Prim.Native.Nat.{ℕ, ◌+◌, ◌*◌, ◌-◌, ◌≤◌, ◌<◌}
-use mathlib.Core.Path.{◌≡◌, refl}
-use lib.ListN.{length, get_or, length-set}
-use Rattle.identifiers.specs.Names.{isins, isin_size, name_byte}
-use Rattle.identifiers.proofs.Laws.{one_read, all_read}
-use borrow.Author.Rules.{rules}
-use native.Mathlib.Omega.{arith}
+use Prim.Native.Nat.{ℕ, ◌+◌, ◌-◌, ◌≤◌, ◌<◌}
+use mathlib.Core.Path.{◌≡◌}
+use lib.ListN.{length, get_or}
+use Rattle.identifiers.specs.Names.{isin_size, name_byte}
 use Rattle.identifiers.proofs.names.isin_of.Given as goal
 
 abbrev pub invariant-loop-i : goal.invariant-loop-i

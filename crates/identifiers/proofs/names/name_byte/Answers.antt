@@ -2,7 +2,6 @@
 use borrow.Author.Tests.{lt-ltb, le-ltb}
 use Rattle.identifiers.specs.Names.{names_size, name_byte}
 use native.Mathlib.Omega.{arith}
-use borrow.Author.Rules.{rules}
 use Rattle.identifiers.proofs.names.name_byte.Goals as goal
 
 pub returns-then-place-lt-NAMES : goal.returns-then-place-lt-NAMES

@@ -1,11 +1,6 @@
 -- The loop's invariant: the bytes ahead put into the list as it is make the list that is due.
-use Prim.Native.Nat.{◌+◌, ◌≤◌, ◌-◌}
-use mathlib.Core.Path.{◌≡◌, sym, ◌∙◌}
-use lib.ListN.{length, drop}
-use native.Mathlib.Nat.{add-zero}
-use Rattle.identifiers.specs.Names.{with_bytes}
+use mathlib.Core.Path.{sym, ◌∙◌}
 use Rattle.identifiers.proofs.Laws.{bytes_next, bytes_ended}
-use borrow.Author.Rules.{rules}
 use native.Mathlib.Omega.{arith}
 use Rattle.identifiers.proofs.names.put_bytes.Goals as goal
 

@@ -1,12 +1,8 @@
 -- The loop's invariant: the bytes ahead put into the list as it is make the list that is due.
 use Prim.Native.Nat.{◌+◌, ◌≤◌, ◌-◌}
-use mathlib.Core.Path.{◌≡◌, sym, ◌∙◌}
+use mathlib.Core.Path.{◌≡◌}
 use lib.ListN.{length, drop}
-use native.Mathlib.Nat.{add-zero}
 use Rattle.identifiers.specs.Names.{with_bytes}
-use Rattle.identifiers.proofs.Laws.{bytes_next, bytes_ended}
-use borrow.Author.Rules.{rules}
-use native.Mathlib.Omega.{arith}
 use Rattle.identifiers.proofs.names.put_bytes.Given as goal
 
 abbrev pub invariant-loop-i : goal.invariant-loop-i

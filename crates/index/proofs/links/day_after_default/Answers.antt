@@ -8,7 +8,6 @@ use Rattle.index.specs.declared.links.Wanted.TheVariants.{Defaults}
 use Rattle.index.specs.Asked.{link_in}
 use Rattle.index.specs.Found.{day_after}
 use Rattle.index.proofs.LinkReading.{link_of, link_of_lem, find_on, small}
-use borrow.Author.Rules.{rules}
 use Rattle.index.proofs.links.day_after_default.Goals as goal
 
 pub returns-then-link-eq0 : goal.returns-then-link-eq0

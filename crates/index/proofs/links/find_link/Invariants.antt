@@ -1,17 +1,13 @@
 -- The loop's invariant: what is found from the newest link on is what is found from this one on.
 use Prim.Native.Nat.{ℕ, ◌≤◌}
-use mathlib.Core.Path.{◌≡◌, refl, sym, ◌∙◌}
+use mathlib.Core.Path.{◌≡◌}
 use mathlib.Core.Bool.{Bool, ◌&&◌}
-use native.Mathlib.Omega.{arith}
 use Rattle.rules.specs.declared.Link.{Link}
 use Rattle.rules.specs.Entries.{has_day_in}
 use Rattle.index.specs.declared.links.Wanted.{Wanted}
 use Rattle.index.specs.Found.{wants}
-use Rattle.index.proofs.LinkReading.{wants_same, goes, ends, older_before, code_end, code_hit, code_miss}
 use Rattle.index.specs.Index.{last_row}
-use Rattle.index.specs.Asked.{link_in}
 use Rattle.index.specs.Found.{code_from, found_by}
-use borrow.Author.Rules.{rules}
 use Rattle.index.proofs.links.find_link.Given as goal
 
 -- a link that is looked for and has a day among these

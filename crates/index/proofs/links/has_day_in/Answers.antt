@@ -1,6 +1,5 @@
 -- Both numbers are read.
 use Rattle.index.specs.Asked.{link_in}
-use borrow.Author.Rules.{rules}
 use Rattle.index.proofs.links.has_day_in.Goals as goal
 
 pub returns : goal.returns

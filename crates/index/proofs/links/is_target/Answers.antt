@@ -1,6 +1,5 @@
 -- A target has a number above 0 at its place.
 use Rattle.index.specs.Asked.{read}
-use borrow.Author.Rules.{rules}
 use Rattle.index.proofs.links.is_target.Goals as goal
 
 pub returns : goal.returns

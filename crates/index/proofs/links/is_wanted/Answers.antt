@@ -1,6 +1,5 @@
 -- The numbers that each test reads.
 use Rattle.index.specs.Asked.{link_in}
-use borrow.Author.Rules.{rules}
 use Rattle.index.proofs.links.is_wanted.Goals as goal
 
 pub returns-in-Issuers : goal.returns-in-Issuers

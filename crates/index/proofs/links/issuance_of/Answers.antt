@@ -4,7 +4,6 @@ use native.Mathlib.Omega.{arith}
 use borrow.Author.Tests.{eq-eqb, ne_eqb}
 use Rattle.index.specs.Asked.{link_in, asked_by}
 use Rattle.index.proofs.LinkReading.{lead_small, lead_none, lead_link}
-use borrow.Author.Rules.{rules}
 use Rattle.index.proofs.links.issuance_of.Goals as goal
 
 pub returns-then-link-eq0 : goal.returns-then-link-eq0

@@ -6,7 +6,6 @@ use Rattle.index.specs.declared.links.Leading.TheVariants.{To}
 use Rattle.index.specs.Asked.{link_in, asked_by}
 use Rattle.index.specs.Found.{leading_of}
 use Rattle.index.proofs.LinkReading.{lead_small, lead_none, lead_link}
-use borrow.Author.Rules.{rules}
 use Rattle.index.proofs.links.leading_at.Goals as goal
 
 pub returns-then-link-eq0 : goal.returns-then-link-eq0

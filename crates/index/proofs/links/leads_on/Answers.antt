@@ -1,9 +1,8 @@
 -- Past the days, by the flag.
 use mathlib.Core.Bool.{not}
 use mathlib.Core.Path.{ap}
-use Rattle.rules.proofs.Basics.{unnot, unnot_false}
+use Rattle.rules.proofs.Basics.{unnot_false}
 use Rattle.index.specs.Asked.{link_in}
-use borrow.Author.Rules.{rules}
 use Rattle.index.proofs.links.leads_on.Goals as goal
 
 pub returns : goal.returns

@@ -6,7 +6,6 @@ use Rattle.index.specs.Index.{newest_at}
 use Rattle.index.specs.Asked.{read, asked_by}
 use Rattle.index.specs.Found.{wants}
 use Rattle.index.proofs.LinkReading.{finds}
-use borrow.Author.Rules.{rules}
 use Rattle.index.proofs.links.meets_link.Goals as goal
 
 pub returns : goal.returns

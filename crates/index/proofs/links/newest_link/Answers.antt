@@ -1,6 +1,5 @@
 -- The number at its place.
 use Rattle.index.specs.Asked.{read}
-use borrow.Author.Rules.{rules}
 use Rattle.index.proofs.links.newest_link.Goals as goal
 
 pub returns : goal.returns

@@ -3,7 +3,6 @@ use Prim.Native.Nat.{◌+◌}
 use native.Mathlib.Omega.{arith}
 use borrow.Author.Tests.{lt-ltb}
 use Rattle.index.specs.Index.{index_size, number_at}
-use borrow.Author.Rules.{rules}
 use Rattle.index.proofs.links.number_at.Goals as goal
 
 pub returns : goal.returns

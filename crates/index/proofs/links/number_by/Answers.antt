@@ -1,10 +1,9 @@
 -- The list has it, if both are within the tables.
 use Prim.Native.Nat.{◌+◌, ◌*◌}
 use native.Mathlib.Omega.{arith}
-use borrow.Author.Tests.{lt-ltb, le-ltb}
+use borrow.Author.Tests.{lt-ltb}
 use Rattle.rules.specs.Directory.{security_limit, csd_limit}
 use Rattle.index.specs.Index.{index_size, number_at}
-use borrow.Author.Rules.{rules}
 use Rattle.index.proofs.links.number_by.Goals as goal
 
 pub returns : goal.returns

@@ -3,7 +3,6 @@ use mathlib.Core.Bool.{and-true, and-false, and_comm}
 use lib.Dec.{eqb}
 use borrow.Author.Tests.{eq-eqb, ne_eqb}
 use Rattle.index.specs.Asked.{link_in}
-use borrow.Author.Rules.{rules}
 use Rattle.index.proofs.links.points_on.Goals as goal
 
 pub returns-then-technical_of-technical : goal.returns-then-technical_of-technical

@@ -1,6 +1,5 @@
 -- The code is one more than the CSD, which is a byte.
 use Rattle.index.specs.Asked.{asked_by}
-use borrow.Author.Rules.{rules}
 use Rattle.index.proofs.lookups.home_of.Goals as goal
 
 pub returns : goal.returns

@@ -1,6 +1,5 @@
 -- The code is one more than the CSD.
 use Rattle.index.specs.Asked.{asked_by}
-use borrow.Author.Rules.{rules}
 use Rattle.index.proofs.lookups.in_books.Goals as goal
 
 pub returns : goal.returns

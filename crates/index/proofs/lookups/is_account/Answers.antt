@@ -1,6 +1,5 @@
 -- A row has a code above 0.
 use Rattle.index.specs.Asked.{asked_by}
-use borrow.Author.Rules.{rules}
 use Rattle.index.proofs.lookups.is_account.Goals as goal
 
 pub returns : goal.returns

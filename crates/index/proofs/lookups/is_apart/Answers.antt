@@ -2,7 +2,6 @@
 use native.Mathlib.Omega.{arith}
 use borrow.Author.Tests.{lt-ltb, le-ltb, ne_eqb}
 use Rattle.index.specs.Asked.{read, asked_by}
-use borrow.Author.Rules.{rules}
 use Rattle.index.proofs.lookups.is_apart.Goals as goal
 
 pub returns-then-a-ge-ACCOUNTS : goal.returns-then-a-ge-ACCOUNTS

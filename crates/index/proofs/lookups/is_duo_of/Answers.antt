@@ -1,7 +1,6 @@
 -- Four numbers that the list has for an account of the table.
 use borrow.Author.Tests.{lt-ltb}
 use Rattle.index.specs.Asked.{read}
-use borrow.Author.Rules.{rules}
 use Rattle.index.proofs.lookups.is_duo_of.Goals as goal
 
 pub returns : goal.returns

@@ -1,6 +1,5 @@
 -- The code is one more than the kind.
 use Rattle.index.specs.Asked.{asked_by}
-use borrow.Author.Rules.{rules}
 use Rattle.index.proofs.lookups.is_kind.Goals as goal
 
 pub returns : goal.returns

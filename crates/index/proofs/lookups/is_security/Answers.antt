@@ -1,6 +1,5 @@
 -- The index has the count.
 use Rattle.index.specs.Asked.{read, asked_by}
-use borrow.Author.Rules.{rules}
 use Rattle.index.proofs.lookups.is_security.Goals as goal
 
 pub returns : goal.returns

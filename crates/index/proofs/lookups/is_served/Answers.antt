@@ -1,6 +1,5 @@
 -- A row has an account in the books of the investor, which the account served stands in too.
 use Rattle.index.specs.Asked.{asked_by}
-use borrow.Author.Rules.{rules}
 use Rattle.index.proofs.lookups.is_served.Goals as goal
 
 pub returns : goal.returns

@@ -4,7 +4,6 @@ use native.Mathlib.Omega.{arith}
 use borrow.Author.Tests.{lt-ltb, le-ltb}
 use Rattle.index.specs.Index.{kind_at}
 use Rattle.index.proofs.Read.{read_in, read_off}
-use borrow.Author.Rules.{rules}
 use Rattle.index.proofs.lookups.kind_code.Goals as goal
 
 pub returns-then-a-ge-ACCOUNTS : goal.returns-then-a-ge-ACCOUNTS

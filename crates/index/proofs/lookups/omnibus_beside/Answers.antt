@@ -7,7 +7,6 @@ use borrow.Author.Tests.{lt-ltb}
 use Rattle.rules.specs.Directory.{account_limit}
 use Rattle.index.specs.Index.{omnibus_at}
 use Rattle.index.proofs.Read.{read_in}
-use borrow.Author.Rules.{rules}
 use Rattle.index.proofs.lookups.omnibus_beside.Goals as goal
 
 pub returns : goal.returns

@@ -5,7 +5,6 @@ use borrow.Author.Tests.{ne_eqb}
 use Rattle.rules.proofs.Basics.{unnot, unnot_false}
 use Rattle.index.specs.Asked.{asked_by}
 use Rattle.index.specs.Found.{pair_found}
-use borrow.Author.Rules.{rules}
 use Rattle.index.proofs.lookups.pair_of.Goals as goal
 
 pub returns-then-not-in_books : goal.returns-then-not-in_books

@@ -1,6 +1,5 @@
 -- The count stands in the list.
 use Rattle.index.specs.Asked.{read, asked_by}
-use borrow.Author.Rules.{rules}
 use Rattle.index.proofs.lookups.pairs_full.Goals as goal
 
 pub returns : goal.returns

@@ -8,7 +8,6 @@ use Rattle.rules.proofs.Basics.{and-true}
 use Rattle.index.specs.Index.{served_at}
 use Rattle.index.specs.Asked.{read}
 use Rattle.index.proofs.Read.{read_in}
-use borrow.Author.Rules.{rules}
 use Rattle.index.proofs.lookups.served_code.Goals as goal
 
 pub returns-then-t-ge-CSDS : goal.returns-then-t-ge-CSDS

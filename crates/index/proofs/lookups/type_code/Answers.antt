@@ -4,7 +4,6 @@ use native.Mathlib.Omega.{arith}
 use borrow.Author.Tests.{lt-ltb, le-ltb}
 use Rattle.index.specs.Index.{type_at}
 use Rattle.index.proofs.Read.{read_in, read_off}
-use borrow.Author.Rules.{rules}
 use Rattle.index.proofs.lookups.type_code.Goals as goal
 
 pub returns-then-c-ge-CSDS : goal.returns-then-c-ge-CSDS

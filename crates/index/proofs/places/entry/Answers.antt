@@ -2,7 +2,6 @@
 use native.Mathlib.Omega.{arith}
 use borrow.Author.Tests.{lt-ltb, le-ltb}
 use Rattle.index.specs.Index.{index_size, number_at}
-use borrow.Author.Rules.{rules}
 use Rattle.index.proofs.places.entry.Goals as goal
 
 pub returns-then-place-lt-INDEX : goal.returns-then-place-lt-INDEX

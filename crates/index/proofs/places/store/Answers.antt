@@ -2,7 +2,6 @@
 use native.Mathlib.Omega.{arith}
 use borrow.Author.Tests.{lt-ltb, le-ltb}
 use Rattle.index.specs.Index.{index_size, with_number}
-use borrow.Author.Rules.{rules}
 use Rattle.index.proofs.places.store.Goals as goal
 
 pub returns-then-place-lt-INDEX : goal.returns-then-place-lt-INDEX

@@ -1,6 +1,5 @@
 -- `wire::commands::next_at` meets its contract: each answer by the tests that lead to it. Assumes nothing.
 use mathlib.Core.Path.{sym, ◌∙◌}
-use borrow.Author.Rules.{rules}
 use Rattle.wire.proofs.Found.{finds_end, finds_unknown, finds_cut, finds_command}
 use Rattle.wire.proofs.commands.next_at.Goals as goal
 

@@ -1,10 +1,7 @@
 -- `wire::operands::copy_bytes` meets its contract: so far the first bytes are copied. Assumes nothing.
-use mathlib.Core.Path.{◌≡◌, refl, sym, ◌∙◌, ap}
-use Prim.Native.Nat.{◌≤◌, ◌-◌}
+use mathlib.Core.Path.{refl}
 use native.Mathlib.Omega.{arith}
-use lib.ListN.{length, take, length-set}
-use lib.Seq.{take_all}
-use borrow.Author.Rules.{rules}
+use lib.ListN.{length-set}
 use Rattle.wire.specs.Operands.{padded_at}
 use Rattle.wire.proofs.Padded.{more}
 use Rattle.wire.proofs.operands.copy_bytes.Goals as goal

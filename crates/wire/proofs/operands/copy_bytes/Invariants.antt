@@ -1,12 +1,8 @@
 -- `wire::operands::copy_bytes` meets its contract: so far the first bytes are copied. Assumes nothing.
-use mathlib.Core.Path.{◌≡◌, refl, sym, ◌∙◌, ap}
+use mathlib.Core.Path.{◌≡◌}
 use Prim.Native.Nat.{◌≤◌, ◌-◌}
-use native.Mathlib.Omega.{arith}
-use lib.ListN.{length, take, length-set}
-use lib.Seq.{take_all}
-use borrow.Author.Rules.{rules}
+use lib.ListN.{length, take}
 use Rattle.wire.specs.Operands.{padded_at}
-use Rattle.wire.proofs.Padded.{more}
 use Rattle.wire.proofs.operands.copy_bytes.Given as goal
 
 abbrev pub invariant-loop-i : goal.invariant-loop-i

@@ -1,5 +1,4 @@
 -- `wire::operands::one_byte` meets its contract: the byte is the number of one byte. Assumes nothing.
-use borrow.Author.Rules.{rules}
 use mathlib.Core.Path.{◌∙◌}
 use Rattle.wire.proofs.Numbers.{one_is}
 use Rattle.wire.proofs.operands.one_byte.Goals as goal

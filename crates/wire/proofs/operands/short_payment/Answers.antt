@@ -1,5 +1,4 @@
 -- `wire::operands::short_payment` meets its contract: the missing bytes are 0. Assumes nothing.
-use borrow.Author.Rules.{rules}
 use mathlib.Core.Path.{◌∙◌}
 use Rattle.wire.proofs.Padded.{payment_of}
 use Rattle.wire.proofs.operands.short_payment.Goals as goal

@@ -1,5 +1,4 @@
 -- `wire::operands::two_bytes` meets its contract: both bytes are there, or the missing ones are 0. Assumes nothing.
-use borrow.Author.Rules.{rules}
 use native.Mathlib.Omega.{arith}
 use mathlib.Core.Path.{◌∙◌}
 use Rattle.wire.proofs.Padded.{number_first}

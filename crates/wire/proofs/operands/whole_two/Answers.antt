@@ -1,5 +1,4 @@
 -- `wire::operands::whole_two` meets its contract: one byte after another. Assumes nothing.
-use borrow.Author.Rules.{rules}
 use Rattle.wire.proofs.Numbers.{first, next}
 use Rattle.wire.proofs.operands.whole_two.Goals as goal
 
