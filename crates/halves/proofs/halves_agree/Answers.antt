@@ -1,9 +1,6 @@
 -- Each faces the other, their terms agree, and their accounts differ.
 use mathlib.Core.Bool.{not}
 use mathlib.Core.Path.{ap}
-use borrow.Author.Rules.{rules}
-use mathlib.Core.Path.{sym}
-use mathlib.Core.Bool.{true≢false}
 use Rattle.rules.proofs.Basics.{unnot, unnot_false}
 use Rattle.halves.proofs.Agreeing.{agreed}
 use Rattle.halves.proofs.halves_agree.Goals as goal

@@ -10,7 +10,6 @@ use Rattle.rules.specs.Tests.{Condition, first_of}
 use Rattle.rules.specs.Entries.{account_conditions}
 use Rattle.index.specs.Asked.{asked}
 use Rattle.refusals.specs.Kept.{account_refusal_in}
-use borrow.Author.Rules.{rules}
 use Rattle.refusals.proofs.account_refusal.Goals as goal
 
 -- past the first k tests the number is the first of the others

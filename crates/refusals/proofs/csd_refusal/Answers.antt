@@ -12,7 +12,6 @@ use Rattle.index.specs.Index.{csd_count}
 use Rattle.index.specs.Asked.{read}
 use Rattle.identifiers.specs.Names.{bic_in}
 use Rattle.refusals.specs.Kept.{csd_refusal_in}
-use borrow.Author.Rules.{rules}
 use Rattle.refusals.proofs.csd_refusal.Goals as goal
 
 -- past the first k tests the number is the first of the others

@@ -1,17 +1,11 @@
 -- The loop's invariant: each day of the row has a default exactly if each day from this one on has.
-use Prim.Native.Nat.{ℕ, suc, ◌-◌, ◌≤◌}
-use mathlib.Core.Path.{◌≡◌, refl, sym, ◌∙◌}
-use mathlib.Core.Logic.{◌≢◌}
-use mathlib.Core.Bool.{Bool, false}
+use Prim.Native.Nat.{ℕ, suc, ◌-◌}
+use mathlib.Core.Path.{◌≡◌}
+use mathlib.Core.Bool.{Bool}
 use mathlib.Core.List.{List}
-use mathlib.Core.Option.{Option, none, some}
-use native.Mathlib.Omega.{arith}
 use Rattle.rules.specs.declared.Link.{Link}
-use Rattle.rules.specs.Entries.{default_on, after_default, each_day}
-use Rattle.rules.proofs.Days.{each_on, each_over, default_lasts}
-use Rattle.index.specs.Asked.{links_at, asked_by}
-use Rattle.index.specs.Found.{day_after}
-use borrow.Author.Rules.{rules}
+use Rattle.rules.specs.Entries.{each_day}
+use Rattle.index.specs.Asked.{links_at}
 use Rattle.refusals.proofs.default_each_day.Given as goal
 
 -- each day from this one on has a default

@@ -12,7 +12,6 @@ use Rattle.rules.specs.Entries.{link_conditions}
 use Rattle.index.specs.Index.{link_count}
 use Rattle.index.specs.Asked.{read, asked}
 use Rattle.refusals.specs.Kept.{link_refusal_in}
-use borrow.Author.Rules.{rules}
 use Rattle.refusals.proofs.link_refusal.Goals as goal
 
 -- past the first k tests the number is the first of the others

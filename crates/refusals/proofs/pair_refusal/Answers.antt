@@ -7,7 +7,6 @@ use Rattle.rules.specs.Tests.{Condition, first_of}
 use Rattle.rules.specs.Entries.{pair_conditions}
 use Rattle.index.specs.Asked.{asked}
 use Rattle.refusals.specs.Kept.{pair_refusal_in}
-use borrow.Author.Rules.{rules}
 use Rattle.refusals.proofs.pair_refusal.Goals as goal
 
 -- past the first k tests the number is the first of the others

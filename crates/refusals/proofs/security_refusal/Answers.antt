@@ -14,7 +14,6 @@ use Rattle.index.specs.Index.{security_count}
 use Rattle.index.specs.Asked.{read}
 use Rattle.identifiers.specs.Names.{isin_in}
 use Rattle.refusals.specs.Kept.{security_refusal_in}
-use borrow.Author.Rules.{rules}
 use Rattle.refusals.proofs.security_refusal.Goals as goal
 
 -- past the first k tests the number is the first of the others

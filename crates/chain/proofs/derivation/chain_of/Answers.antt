@@ -1,7 +1,6 @@
 -- The accounts' CSDs: one step where they are the same, else the route between them and the steps along it.
 use mathlib.Core.Path.{◌∙◌}
 use native.Mathlib.Omega.{arith}
-use borrow.Author.Rules.{rules}
 use Rattle.rules.specs.Chain.{chain}
 use Rattle.index.specs.Asked.{asked_on}
 use Rattle.chain.proofs.Days.{home_on}

@@ -1,6 +1,5 @@
 -- The lent list's refusal, the halves', then the chain's, else its steps and their number.
 use mathlib.Core.Path.{sym, ◌∙◌}
-use borrow.Author.Rules.{rules}
 use Rattle.index.specs.Asked.{asked_on}
 use Rattle.halves.proofs.Days.{halves_on}
 use Rattle.chain.proofs.Deriving.{derives_misfit, derives_halves, derives_refused, derives_chained}

@@ -1,9 +1,7 @@
 -- The three numbers of the step stand behind those of the first n.
 use mathlib.Core.Path.{sym}
 use native.Mathlib.Omega.{arith}
-use lib.ListN.{length-set}
 use Rattle.chain.proofs.StepList.{put_here}
-use borrow.Author.Rules.{rules}
 use Rattle.chain.proofs.step_list.put_step.Goals as goal
 
 pub returns : goal.returns

@@ -4,7 +4,6 @@ use lib.ListN.{length}
 use borrow.Author.Tests.{eq-eqb, ne_eqb, le-ltb}
 use Rattle.rules.specs.Chain.{step_limit}
 use Rattle.chain.specs.StepList.{step_numbers, step_at}
-use borrow.Author.Rules.{rules}
 use Rattle.chain.proofs.step_list.step_at.Goals as goal
 
 pub returns-else-i-lt-STEPS : goal.returns-else-i-lt-STEPS

@@ -2,7 +2,6 @@
 use mathlib.Core.Path.{sym}
 use native.Mathlib.Omega.{arith}
 use Rattle.chain.proofs.StepList.{step_here}
-use borrow.Author.Rules.{rules}
 use Rattle.chain.proofs.step_list.step_in.Goals as goal
 
 pub returns : goal.returns

@@ -6,7 +6,6 @@ use native.Mathlib.Omega.{arith}
 use lib.ListN.{length}
 use Rattle.chain.proofs.StepList.{length_step}
 use Rattle.chain.proofs.Putting.{adds_none, adds_more}
-use borrow.Author.Rules.{rules}
 use Rattle.chain.proofs.steps.add_top.Goals as goal
 
 pub returns-in-Meeting : goal.returns-in-Meeting

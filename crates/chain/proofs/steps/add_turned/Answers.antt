@@ -1,11 +1,9 @@
 -- The loop's invariant: what adds the steps left, turned, adds the whole side turned.
-use Prim.Native.Nat.{◌+◌, ◌≤◌}
-use mathlib.Core.Path.{◌≡◌, refl, ap, ◌∙◌}
+use mathlib.Core.Path.{ap, ◌∙◌}
 use native.Mathlib.Omega.{arith}
 use lib.ListN.{length}
-use borrow.Author.Rules.{rules}
 use Rattle.chain.proofs.StepList.{length_step}
-use Rattle.chain.proofs.Putting.{Turning, turns_one, turns_none}
+use Rattle.chain.proofs.Putting.{turns_one, turns_none}
 use Rattle.chain.proofs.steps.add_turned.Goals as goal
 
 pub loop-i-preserved : goal.loop-i-preserved

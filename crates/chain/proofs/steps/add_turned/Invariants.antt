@@ -1,11 +1,8 @@
 -- The loop's invariant: what adds the steps left, turned, adds the whole side turned.
 use Prim.Native.Nat.{◌+◌, ◌≤◌}
-use mathlib.Core.Path.{◌≡◌, refl, ap, ◌∙◌}
-use native.Mathlib.Omega.{arith}
+use mathlib.Core.Path.{◌≡◌}
 use lib.ListN.{length}
-use borrow.Author.Rules.{rules}
-use Rattle.chain.proofs.StepList.{length_step}
-use Rattle.chain.proofs.Putting.{Turning, turns_one, turns_none}
+use Rattle.chain.proofs.Putting.{Turning}
 use Rattle.chain.proofs.steps.add_turned.Given as goal
 
 abbrev pub invariant-loop-i : goal.invariant-loop-i

@@ -1,7 +1,6 @@
 -- The one step, put behind none.
 use mathlib.Core.Path.{refl}
 use native.Mathlib.Omega.{arith}
-use borrow.Author.Rules.{rules}
 use Rattle.chain.proofs.StepList.{holds_none, holds_more}
 use Rattle.chain.proofs.Linking.{found_steps}
 use Rattle.chain.proofs.steps.one_step.Goals as goal

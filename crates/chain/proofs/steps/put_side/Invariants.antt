@@ -1,13 +1,9 @@
 -- The loop's invariant: the first i steps of the side are put.
 use Prim.Native.Nat.{◌-◌, ◌≤◌}
-use mathlib.Core.Path.{◌≡◌, refl, ap, ◌∙◌}
-use native.Mathlib.Omega.{arith}
+use mathlib.Core.Path.{◌≡◌}
 use lib.ListN.{length}
-use borrow.Author.Rules.{rules}
 use Rattle.chain.specs.StepList.{steps_in}
 use Rattle.chain.specs.Steps.{Adds}
-use Rattle.chain.proofs.StepList.{length_step}
-use Rattle.chain.proofs.Putting.{side_starts, side_goes_on}
 use Rattle.chain.proofs.steps.put_side.Given as goal
 
 abbrev pub invariant-loop-i : goal.invariant-loop-i

@@ -5,7 +5,6 @@ use Rattle.rules.specs.Walks.{Walk, side_limit}
 use Rattle.index.specs.Asked.{asked_on}
 use Rattle.walks.specs.Routes.{turns}
 use Rattle.walks.proofs.Directed.{same_walk}
-use borrow.Author.Rules.{rules}
 use Rattle.walks.proofs.routes.directed_from.Goals as goal
 
 pub returns : goal.returns

@@ -1,16 +1,15 @@
 -- Both arrive with nothing in common at their ends, so that neither names where the other starts; and no link leads there.
 use mathlib.Core.Bool.{not}
 use mathlib.Core.Path.{ap}
-use mathlib.Core.Path.{◌≡◌, refl, sym, ◌∙◌}
-use mathlib.Core.Bool.{true, false}
+use mathlib.Core.Path.{◌≡◌, sym, ◌∙◌}
+use mathlib.Core.Bool.{true}
 use Rattle.rules.specs.Walks.{arrived}
-use Rattle.rules.proofs.Basics.{clash, unnot, unnot_false}
+use Rattle.rules.proofs.Basics.{unnot, unnot_false}
 use Rattle.index.specs.Asked.{asked_on}
 use Rattle.walks.specs.Walks.{walk_of}
 use Rattle.walks.specs.Routes.{CommonEnd}
 use Rattle.walks.proofs.Meeting.{common_turned, unnamed}
 use Rattle.walks.proofs.Unturned.{unturned}
-use borrow.Author.Rules.{rules}
 use Rattle.walks.proofs.routes.none_turns.Goals as goal
 
 pub returns : goal.returns

@@ -5,7 +5,6 @@ use Rattle.walks.specs.Walks.{walk_of}
 use Rattle.walks.proofs.Routing.{unmet, same_csd_lem, walks_meet, reaches, reaches_back, ends_judged}
 use Rattle.walks.proofs.Directed.{unreached}
 use Rattle.index.specs.Asked.{asked_on}
-use borrow.Author.Rules.{rules}
 use Rattle.walks.proofs.routes.route_of.Goals as goal
 
 pub returns-then-from-to : goal.returns-then-from-to

@@ -2,12 +2,11 @@
 use mathlib.Core.Bool.{not}
 use mathlib.Core.Path.{ap}
 use mathlib.Core.Path.{◌≡◌, sym, ◌∙◌}
-use mathlib.Core.Bool.{true, false}
+use mathlib.Core.Bool.{true}
 use Rattle.rules.specs.Walks.{arrived}
-use Rattle.rules.proofs.Basics.{impossible, unnot, unnot_false}
+use Rattle.rules.proofs.Basics.{impossible, unnot_false}
 use Rattle.walks.specs.Walks.{walk_of}
-use Rattle.walks.proofs.Meeting.{meet, meet_outside, unarrived, unarrived'}
-use borrow.Author.Rules.{rules}
+use Rattle.walks.proofs.Meeting.{meet, meet_outside}
 use Rattle.walks.proofs.routes.shared_csds.Goals as goal
 
 pub returns-then-common-eq1 : goal.returns-then-common-eq1

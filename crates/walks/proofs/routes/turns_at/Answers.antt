@@ -1,11 +1,9 @@
 -- The target itself, or a link to it, which there is for a target alone.
 use mathlib.Core.Bool.{not}
 use mathlib.Core.Path.{ap}
-use mathlib.Core.Path.{◌∙◌}
-use borrow.Author.Tests.{eq-eqb, ne_eqb}
+use borrow.Author.Tests.{ne_eqb}
 use Rattle.rules.proofs.Basics.{unnot}
 use Rattle.index.specs.Asked.{asked_by}
-use borrow.Author.Rules.{rules}
 use Rattle.walks.proofs.routes.turns_at.Goals as goal
 
 pub returns-then-not-linked : goal.returns-then-not-linked

@@ -1,11 +1,9 @@
 -- The CSD before the side's length.
 use Prim.Native.Nat.{◌-◌, ◌<◌}
-use mathlib.Core.Path.{◌≡◌, sym, ◌∙◌}
-use lib.ListN.{length, length-take}
+use mathlib.Core.Path.{sym, ◌∙◌}
+use lib.ListN.{length-take}
 use lib.Seq.{get_or-take}
 use native.Mathlib.Omega.{arith}
-use borrow.Author.Rules.{rules}
-use Rattle.rules.specs.Walks.{side_limit}
 use Rattle.walks.specs.Sides.{named}
 use Rattle.walks.proofs.Paths.{last_none, last_some}
 use Rattle.walks.proofs.sides.last_of.Goals as goal

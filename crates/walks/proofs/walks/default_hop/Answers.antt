@@ -4,7 +4,6 @@ use Rattle.rules.specs.Walks.{default_hop}
 use Rattle.index.specs.Asked.{asked_on}
 use Rattle.walks.proofs.Days.{outside_on}
 use Rattle.walks.proofs.Hops.{hop_led}
-use borrow.Author.Rules.{rules}
 use Rattle.walks.proofs.walks.default_hop.Goals as goal
 
 pub returns-then-is_external : goal.returns-then-is_external

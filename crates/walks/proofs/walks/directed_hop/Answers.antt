@@ -3,7 +3,6 @@ use mathlib.Core.Bool.{and-false}
 use borrow.Author.Tests.{eq-eqb, ne_eqb}
 use Rattle.rules.specs.Walks.{default_hop, directed_hop}
 use Rattle.walks.proofs.Days.{outside_on}
-use borrow.Author.Rules.{rules}
 use Rattle.walks.proofs.walks.directed_hop.Goals as goal
 
 pub returns-then-csd-target : goal.returns-then-csd-target

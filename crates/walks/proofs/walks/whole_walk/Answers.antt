@@ -1,10 +1,8 @@
 -- The number that the walk told has how many CSDs it named and the way in which it ended, at the last of them.
 use mathlib.Core.Path.{refl}
-use native.Mathlib.Omega.{arith}
 use Rattle.index.specs.Asked.{asked_on}
 use Rattle.walks.specs.Walks.{hop_of}
-use Rattle.walks.proofs.Walking.{hop_there, at_least_one, few, walked_whole}
-use borrow.Author.Rules.{rules}
+use Rattle.walks.proofs.Walking.{hop_there, at_least_one, walked_whole}
 use Rattle.walks.proofs.walks.whole_walk.Goals as goal
 
 pub overflow_sub-last : goal.overflow_sub-last
