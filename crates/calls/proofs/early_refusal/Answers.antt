@@ -1,14 +1,13 @@
 -- 3 is looked at first, then 4, for which the directory is read.
 use mathlib.Core.Bool.{not}
 use mathlib.Core.Path.{ap}
-use borrow.Author.Rules.{rules}
 use mathlib.Core.Path.{◌≡◌}
 use lib.ListN.{length}
 use Rattle.rules.specs.Directory.{csd_limit, security_limit, account_limit, pair_limit, link_limit}
 use Rattle.rules.proofs.Basics.{unnot, unnot_false}
 use Rattle.index.proofs.Laws.{length_mapped}
 use Rattle.index.specs.Index.{WholeTables}
-use Rattle.calls.proofs.Admitted.{misfitting, unsound, admitted}
+use Rattle.calls.proofs.Admitted.{unsound, admitted}
 use Rattle.calls.proofs.early_refusal.Goals as goal
 
 pub returns-then-not-read : goal.returns-then-not-read

@@ -1,6 +1,5 @@
 -- `ending::cents_of` meets its contract: the total's sum. Assumes nothing.
 use mathlib.Core.Path.{sym, ap, ◌∙◌}
-use borrow.Author.Rules.{rules}
 use Rattle.ending.specs.Ending.{cents_in}
 use Rattle.ending.proofs.cents_of.Goals as goal
 

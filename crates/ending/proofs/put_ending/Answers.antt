@@ -2,7 +2,6 @@
 use mathlib.Core.Path.{ap}
 use Rattle.rules.specs.Stream.{cash_line}
 use Rattle.text.proofs.Appends.{then, named}
-use borrow.Author.Rules.{rules}
 use Rattle.ending.specs.Ending.{ending_in}
 use Rattle.ending.proofs.put_ending.Goals as goal
 

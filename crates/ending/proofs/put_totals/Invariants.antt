@@ -1,15 +1,11 @@
 -- `ending::put_totals` meets its contract: after i turns the lines of i securities stand there. Assumes nothing.
-use mathlib.Core.Path.{◌≡◌, refl, ap, ◌∙◌}
+use mathlib.Core.Path.{◌≡◌}
 use Prim.Native.Nat.{◌-◌, ◌≤◌}
-use native.Mathlib.Omega.{arith}
 use lib.ListN.{length}
-use borrow.Author.Rules.{rules}
 use Rattle.rules.specs.Directory.{security_limit}
 use Rattle.text.specs.Appended.{Appended}
-use Rattle.text.proofs.Appends.{no_bytes, then, named, front_of}
 use Rattle.refusals.specs.Kept.{kept_in}
 use Rattle.ending.specs.Ending.{totals_in, securities_in}
-use Rattle.ending.proofs.Totals.{counted, total_told}
 use Rattle.ending.proofs.put_totals.Given as goal
 
 abbrev pub invariant-loop-i : goal.invariant-loop-i

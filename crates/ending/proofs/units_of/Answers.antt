@@ -1,6 +1,5 @@
 -- `ending::units_of` meets its contract: the total's sum. Assumes nothing.
 use mathlib.Core.Path.{sym, ap, ◌∙◌}
-use borrow.Author.Rules.{rules}
 use Rattle.ending.specs.Ending.{units_in}
 use Rattle.ending.proofs.units_of.Goals as goal
 

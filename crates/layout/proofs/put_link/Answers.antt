@@ -2,8 +2,6 @@
 use native.Mathlib.Nat.{add-zero}
 use Prim.Native.Nat.{◌+◌}
 use native.Mathlib.Omega.{arith}
-use lib.ListN.{length-set}
-use borrow.Author.Rules.{rules}
 use Rattle.layout.specs.Layout.{link_width, link_bytes}
 use Rattle.layout.proofs.Bytes.{put_stored}
 use Rattle.layout.proofs.put_link.Goals as goal

@@ -2,7 +2,6 @@
 use Rattle.layout.specs.Layout.{securities_start, accounts_start, pairs_start, links_start, rows_length, bytes_of, bytes_of_csds, bytes_of_securities, bytes_of_accounts, bytes_of_pairs, bytes_of_links}
 use Rattle.layout.proofs.Bytes.{five}
 use native.Mathlib.Omega.{arith}
-use borrow.Author.Rules.{rules}
 use Rattle.layout.proofs.put_rows.Goals as goal
 
 pub returns : goal.returns

@@ -1,12 +1,9 @@
 -- So far the first bytes of the rows stand in their place; the rest is as before.
-use borrow.Author.Rules.{rules}
-use mathlib.Core.Path.{◌≡◌, refl}
-use Prim.Native.Nat.{◌+◌, ◌*◌, ◌≤◌, ◌-◌}
-use native.Mathlib.Omega.{arith}
+use mathlib.Core.Path.{◌≡◌}
+use Prim.Native.Nat.{◌*◌, ◌≤◌, ◌-◌}
 use lib.ListN.{length}
 use Rattle.rules.specs.Chain.{step}
 use Rattle.layout.specs.Layout.{bytes_in, step_bytes, Put}
-use Rattle.layout.proofs.Bytes.{put_none, put_more, length_mapped, steps_done}
 use Rattle.layout.proofs.put_steps.Given as goal
 
 abbrev pub invariant-loop-j : goal.invariant-loop-j

@@ -1,9 +1,8 @@
 -- So far the first rows are read; each is decoded where it starts.
-use borrow.Author.Rules.{rules}
 use mathlib.Core.Path.{◌≡◌, refl, ap, ◌∙◌}
-use Prim.Native.Nat.{◌+◌, ◌*◌, ◌≤◌, ◌-◌}
+use Prim.Native.Nat.{◌+◌, ◌*◌}
 use native.Mathlib.Omega.{arith}
-use lib.ListN.{length, take, length-set}
+use lib.ListN.{length-set}
 use Rattle.layout.specs.Layout.{rows_in, account_in, account_of, accounts_in}
 use Rattle.layout.proofs.Rows.{from, row_more, rows_done}
 use Rattle.layout.proofs.read_accounts.Goals as goal

@@ -1,6 +1,5 @@
 -- Each table is read with its count.
 use Rattle.layout.proofs.Rows.{all_read}
-use borrow.Author.Rules.{rules}
 use Rattle.layout.proofs.read_directory.Goals as goal
 
 pub returns : goal.returns

@@ -1,9 +1,8 @@
 -- So far the first rows are read; each is decoded where it starts.
-use borrow.Author.Rules.{rules}
 use mathlib.Core.Path.{◌≡◌, refl, ap, ◌∙◌}
-use Prim.Native.Nat.{◌+◌, ◌*◌, ◌≤◌, ◌-◌}
+use Prim.Native.Nat.{◌+◌, ◌*◌}
 use native.Mathlib.Omega.{arith}
-use lib.ListN.{length, take, length-set}
+use lib.ListN.{length-set}
 use Rattle.layout.specs.Layout.{link_width, links_start, rows_in, link_in, link_of, links_in}
 use Rattle.layout.proofs.Rows.{from, row_more, rows_done}
 use Rattle.layout.proofs.read_links.Goals as goal

@@ -1,12 +1,9 @@
 -- So far the first rows are read; each is decoded where it starts.
-use borrow.Author.Rules.{rules}
-use mathlib.Core.Path.{◌≡◌, refl, ap, ◌∙◌}
-use Prim.Native.Nat.{◌+◌, ◌*◌, ◌≤◌, ◌-◌}
-use native.Mathlib.Omega.{arith}
-use lib.ListN.{length, take, length-set}
+use mathlib.Core.Path.{◌≡◌}
+use Prim.Native.Nat.{◌≤◌, ◌-◌}
+use lib.ListN.{length, take}
 use Rattle.rules.specs.Directory.{pair_limit}
-use Rattle.layout.specs.Layout.{pair_width, pairs_start, rows_in, pair_in, pair_of, pairs_in}
-use Rattle.layout.proofs.Rows.{from, row_more, rows_done}
+use Rattle.layout.specs.Layout.{pair_width, pairs_start, rows_in, pair_in}
 use Rattle.layout.proofs.read_pairs.Given as goal
 
 abbrev pub invariant-loop-i : goal.invariant-loop-i

@@ -1,11 +1,9 @@
 -- So far the first bytes of the rows stand in their place; the rest is as before.
-use borrow.Author.Rules.{rules}
-use mathlib.Core.Path.{◌≡◌, refl}
-use Prim.Native.Nat.{◌+◌, ◌≤◌, ◌-◌}
+use mathlib.Core.Path.{refl}
+use Prim.Native.Nat.{◌+◌}
 use native.Mathlib.Omega.{arith}
-use lib.ListN.{length}
 use Rattle.rules.specs.Entries.{blank_account}
-use Rattle.layout.specs.Layout.{rows_length, bytes_in, account_bytes, Put}
+use Rattle.layout.specs.Layout.{account_bytes}
 use Rattle.layout.proofs.Bytes.{put_none, put_more, put_done}
 use Rattle.layout.proofs.write_accounts.Goals as goal
 

@@ -1,12 +1,9 @@
 -- So far the first rows stand in their place; the rest is as before.
-use borrow.Author.Rules.{rules}
-use mathlib.Core.Path.{◌≡◌, refl}
-use Prim.Native.Nat.{◌+◌, ◌*◌, ◌≤◌, ◌-◌}
+use mathlib.Core.Path.{refl}
+use Prim.Native.Nat.{◌+◌, ◌*◌}
 use native.Mathlib.Omega.{arith}
-use lib.ListN.{length}
-use Rattle.rules.specs.Directory.{link_limit}
 use Rattle.rules.specs.Entries.{blank_link}
-use Rattle.layout.specs.Layout.{link_width, links_length, links_start, rows_length, bytes_in, link_bytes, Put}
+use Rattle.layout.specs.Layout.{link_width, links_length, links_start, rows_length, link_bytes}
 use Rattle.layout.proofs.Bytes.{put_none, put_row, put_done}
 use Rattle.layout.proofs.write_links.Goals as goal
 

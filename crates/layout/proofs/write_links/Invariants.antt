@@ -1,13 +1,10 @@
 -- So far the first rows stand in their place; the rest is as before.
-use borrow.Author.Rules.{rules}
-use mathlib.Core.Path.{◌≡◌, refl}
+use mathlib.Core.Path.{◌≡◌}
 use Prim.Native.Nat.{◌+◌, ◌*◌, ◌≤◌, ◌-◌}
-use native.Mathlib.Omega.{arith}
 use lib.ListN.{length}
 use Rattle.rules.specs.Directory.{link_limit}
 use Rattle.rules.specs.Entries.{blank_link}
-use Rattle.layout.specs.Layout.{link_width, links_length, links_start, rows_length, bytes_in, link_bytes, Put}
-use Rattle.layout.proofs.Bytes.{put_none, put_row, put_done}
+use Rattle.layout.specs.Layout.{link_width, links_start, rows_length, bytes_in, link_bytes, Put}
 use Rattle.layout.proofs.write_links.Given as goal
 
 abbrev pub invariant-loop-i : goal.invariant-loop-i

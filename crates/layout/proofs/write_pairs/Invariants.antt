@@ -1,13 +1,10 @@
 -- So far the first rows stand in their place; the rest is as before.
-use borrow.Author.Rules.{rules}
-use mathlib.Core.Path.{◌≡◌, refl}
+use mathlib.Core.Path.{◌≡◌}
 use Prim.Native.Nat.{◌+◌, ◌*◌, ◌≤◌, ◌-◌}
-use native.Mathlib.Omega.{arith}
 use lib.ListN.{length}
 use Rattle.rules.specs.Directory.{pair_limit}
 use Rattle.rules.specs.Entries.{blank_pair}
-use Rattle.layout.specs.Layout.{pair_width, pairs_length, pairs_start, links_start, rows_length, bytes_in, pair_bytes, Put}
-use Rattle.layout.proofs.Bytes.{put_none, put_row, put_done}
+use Rattle.layout.specs.Layout.{pair_width, pairs_start, rows_length, bytes_in, pair_bytes, Put}
 use Rattle.layout.proofs.write_pairs.Given as goal
 
 abbrev pub invariant-loop-i : goal.invariant-loop-i

@@ -1,15 +1,11 @@
 -- The loop's invariant: the rows ahead, read into what is kept now, end as all rows read into what was kept at entry.
-use borrow.Author.Rules.{rules}
-use Prim.Native.Nat.{ℕ, ◌-◌}
 use mathlib.Core.Path.{◌≡◌, refl}
-use mathlib.Core.List.{List, map}
 use lib.ListN.{length}
 use native.Mathlib.Omega.{arith}
-use Rattle.rules.specs.Directory.{account_rows, account_limit}
-use Rattle.rules.specs.Entries.{account_row, blank_account}
+use Rattle.rules.specs.Directory.{account_limit}
+use Rattle.rules.specs.Entries.{blank_account}
 use Rattle.index.proofs.Laws.{length_mapped}
-use Rattle.reading.specs.Read.{read_rows, kept}
-use Rattle.reading.proofs.Loops.{Ahead, all_read, stops, goes_on_lem}
+use Rattle.reading.proofs.Loops.{all_read, stops, goes_on_lem}
 use Rattle.reading.proofs.read_accounts.Goals as goal
 
 pub returns-then-accounts-i : goal.returns-then-accounts-i

@@ -1,15 +1,10 @@
 -- The loop's invariant: the rows ahead, read into what is kept now, end as all rows read into what was kept at entry.
-use borrow.Author.Rules.{rules}
 use Prim.Native.Nat.{◌-◌}
-use mathlib.Core.Path.{◌≡◌, refl}
-use mathlib.Core.List.{[], map}
-use lib.ListN.{length}
-use native.Mathlib.Omega.{arith}
+use mathlib.Core.List.{map}
 use Rattle.rules.specs.Directory.{csd_rows, csd_limit}
 use Rattle.rules.specs.Entries.{csd_row}
-use Rattle.index.proofs.Laws.{length_mapped}
 use Rattle.reading.specs.Read.{read_rows, kept}
-use Rattle.reading.proofs.Loops.{Ahead, all_read, stops, goes_on_lem}
+use Rattle.reading.proofs.Loops.{Ahead}
 use Rattle.reading.proofs.read_csds.Given as goal
 
 abbrev pub invariant-loop-i : goal.invariant-loop-i

@@ -1,15 +1,11 @@
 -- The loop's invariant: the rows ahead, read into what is kept now, end as all rows read into what was kept at entry.
-use borrow.Author.Rules.{rules}
-use Prim.Native.Nat.{ℕ, ◌-◌}
 use mathlib.Core.Path.{◌≡◌, refl}
-use mathlib.Core.List.{List, map}
 use lib.ListN.{length}
 use native.Mathlib.Omega.{arith}
-use Rattle.rules.specs.Directory.{link_rows, link_limit}
-use Rattle.rules.specs.Entries.{link_row, blank_link}
+use Rattle.rules.specs.Directory.{link_limit}
+use Rattle.rules.specs.Entries.{blank_link}
 use Rattle.index.proofs.Laws.{length_mapped}
-use Rattle.reading.specs.Read.{read_rows, kept}
-use Rattle.reading.proofs.Loops.{Ahead, all_read, stops, goes_on_lem}
+use Rattle.reading.proofs.Loops.{all_read, stops, goes_on_lem}
 use Rattle.reading.proofs.read_links.Goals as goal
 
 pub returns-then-links-i : goal.returns-then-links-i

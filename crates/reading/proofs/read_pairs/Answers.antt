@@ -1,15 +1,11 @@
 -- The loop's invariant: the rows ahead, read into what is kept now, end as all rows read into what was kept at entry.
-use borrow.Author.Rules.{rules}
-use Prim.Native.Nat.{ℕ, ◌-◌}
 use mathlib.Core.Path.{◌≡◌, refl}
-use mathlib.Core.List.{List, map}
 use lib.ListN.{length}
 use native.Mathlib.Omega.{arith}
-use Rattle.rules.specs.Directory.{pair_rows, pair_limit}
-use Rattle.rules.specs.Entries.{pair_row, blank_pair}
+use Rattle.rules.specs.Directory.{pair_limit}
+use Rattle.rules.specs.Entries.{blank_pair}
 use Rattle.index.proofs.Laws.{length_mapped}
-use Rattle.reading.specs.Read.{read_rows, kept}
-use Rattle.reading.proofs.Loops.{Ahead, all_read, stops, goes_on_lem}
+use Rattle.reading.proofs.Loops.{all_read, stops, goes_on_lem}
 use Rattle.reading.proofs.read_pairs.Goals as goal
 
 pub returns-then-pairs-i : goal.returns-then-pairs-i

@@ -1,15 +1,11 @@
 -- The loop's invariant: the rows ahead, read into what is kept now, end as all rows read into what was kept at entry.
-use borrow.Author.Rules.{rules}
-use Prim.Native.Nat.{◌-◌}
-use mathlib.Core.Path.{◌≡◌, refl}
-use mathlib.Core.List.{[], map}
+use mathlib.Core.Path.{◌≡◌}
+use mathlib.Core.List.{[]}
 use lib.ListN.{length}
 use native.Mathlib.Omega.{arith}
-use Rattle.rules.specs.Directory.{security_rows, security_limit}
-use Rattle.rules.specs.Entries.{security_row}
+use Rattle.rules.specs.Directory.{security_limit}
 use Rattle.index.proofs.Laws.{length_mapped}
-use Rattle.reading.specs.Read.{read_rows, kept}
-use Rattle.reading.proofs.Loops.{Ahead, all_read, stops, goes_on_lem}
+use Rattle.reading.proofs.Loops.{all_read, stops, goes_on_lem}
 use Rattle.reading.proofs.read_securities.Goals as goal
 
 pub returns-then-securities-i : goal.returns-then-securities-i

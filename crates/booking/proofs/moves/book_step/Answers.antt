@@ -1,8 +1,6 @@
 -- What the step's tests found decides; where neither found anything, the step has room.
-use borrow.Author.Rules.{rules}
 use mathlib.Core.Path.{sym, ◌∙◌}
 use mathlib.Core.Bool.{false}
-use borrow.Author.Tests.{ne_eqb}
 use Rattle.booking.proofs.Moved.{step_room}
 use Rattle.booking.proofs.Refused.{book_open}
 use Rattle.booking.proofs.moves.book_step.Goals as goal

@@ -1,5 +1,4 @@
 -- The issuance account of an issuer, else what the default link gives.
-use borrow.Author.Rules.{rules}
 use mathlib.Core.Path.{sym, ap, ◌∙◌}
 use Rattle.index.specs.Asked.{asked_on}
 use Rattle.booking.specs.declared.moves.Contra.TheVariants.{At}

@@ -1,5 +1,4 @@
 -- Whether the technical issuer is outside, and the pair for it, as each look-up found them.
-use borrow.Author.Rules.{rules}
 use mathlib.Core.Path.{sym, ◌∙◌}
 use Rattle.index.proofs.Found.{pair_row_lem, pair_missing}
 use Rattle.booking.specs.Moves.{contra_found}

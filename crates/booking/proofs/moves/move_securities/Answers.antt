@@ -1,5 +1,4 @@
 -- Each number in turn decides as the definition has it; where none does, the step judged is the step booked.
-use borrow.Author.Rules.{rules}
 use mathlib.Core.Path.{sym, ◌∙◌}
 use Rattle.index.specs.Asked.{asked_on}
 use Rattle.chain.proofs.Days.{home_on}
@@ -7,7 +6,6 @@ use Rattle.booking.specs.Moves.{way_of}
 use Rattle.booking.proofs.Moved.{by_operands, by_contra, by_step, by_none}
 use Rattle.booking.proofs.Contras.{contra_at, contra_missing}
 use Rattle.booking.proofs.Days.{operands_on, step_on}
-use Rattle.booking.proofs.Refused.{operands_open}
 use Rattle.booking.proofs.moves.move_securities.Goals as goal
 
 pub returns-then-refusal-ne0 : goal.returns-then-refusal-ne0

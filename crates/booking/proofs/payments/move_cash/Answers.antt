@@ -1,5 +1,5 @@
 -- Refused, the call leaves what it was lent; else the balance changes by what was judged.
-use borrow.Author.Rules.{rules, sfits_of}
+use borrow.Author.Rules.{sfits_of}
 use mathlib.Core.Path.{sym, ◌∙◌}
 use mir.Facts.{to_z-of_z}
 use mir.Syntax.{w64}

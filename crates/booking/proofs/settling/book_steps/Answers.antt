@@ -1,11 +1,7 @@
 -- The positions are those that the steps so far make of the positions at the start, and the next step has room.
 use borrow.Author.Rules.{rules}
-use mathlib.Core.Path.{◌≡◌, refl, ◌∙◌}
-use Prim.Native.Nat.{◌≤◌, ◌-◌}
+use mathlib.Core.Path.{refl, ◌∙◌}
 use native.Mathlib.Omega.{arith}
-use lib.ListN.{length}
-use Rattle.rules.specs.Booking.{booked}
-use Rattle.chain.specs.StepList.{steps_in}
 use Rattle.booking.proofs.Listed.{booked_none, next_room, next_booked}
 use Rattle.booking.proofs.settling.book_steps.Goals as goal
 

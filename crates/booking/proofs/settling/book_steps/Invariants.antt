@@ -1,12 +1,9 @@
 -- The positions are those that the steps so far make of the positions at the start, and the next step has room.
-use borrow.Author.Rules.{rules}
-use mathlib.Core.Path.{◌≡◌, refl, ◌∙◌}
+use mathlib.Core.Path.{◌≡◌}
 use Prim.Native.Nat.{◌≤◌, ◌-◌}
-use native.Mathlib.Omega.{arith}
 use lib.ListN.{length}
 use Rattle.rules.specs.Booking.{booked}
 use Rattle.chain.specs.StepList.{steps_in}
-use Rattle.booking.proofs.Listed.{booked_none, next_room, next_booked}
 use Rattle.booking.proofs.settling.book_steps.Given as goal
 
 abbrev pub invariant-loop-i : goal.invariant-loop-i

@@ -1,5 +1,4 @@
 -- Steps that fit leave the cash to decide; else what each test found is put into the definition of the refusal.
-use borrow.Author.Rules.{rules}
 use mathlib.Core.Path.{sym, ◌∙◌}
 use Rattle.index.specs.Asked.{asked}
 use Rattle.holdings.proofs.Fitting.{AllFit, fit_open}

@@ -1,5 +1,4 @@
 -- Each number in turn decides as the definition has it; where none does, the steps and the payment judged are those booked.
-use borrow.Author.Rules.{rules}
 use mathlib.Core.Path.{sym, ◌∙◌}
 use Rattle.index.specs.Asked.{asked, asked_on}
 use Rattle.chain.specs.StepList.{steps_in}

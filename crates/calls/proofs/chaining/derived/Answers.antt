@@ -1,5 +1,4 @@
 -- 3 and 4 first; else the stream's derivation, its steps laid out.
-use borrow.Author.Rules.{rules}
 use mathlib.Core.Path.{◌∙◌}
 use Rattle.chain.proofs.Deriving.{handed_derives}
 use Rattle.calls.proofs.Admitted.{nothing_kept_lem}

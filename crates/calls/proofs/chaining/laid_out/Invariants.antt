@@ -1,13 +1,10 @@
 -- The loop's invariant: the first i steps are stored on blank rows.
-use borrow.Author.Rules.{rules}
 use Prim.Native.Nat.{◌≤◌, ◌-◌}
 use mathlib.Core.Path.{◌≡◌}
-use native.Mathlib.Omega.{arith}
-use native.Mathlib.Numerals.{add-one}
 use Rattle.rules.specs.Chain.{step_limit}
 use Rattle.chain.specs.StepList.{step_at}
 use Rattle.rules.specs.Outcomes.{blanks}
-use Rattle.calls.proofs.Stored.{stored, laid}
+use Rattle.calls.proofs.Stored.{stored}
 use Rattle.calls.proofs.chaining.laid_out.Given as goal
 
 abbrev pub invariant-loop-i : goal.invariant-loop-i

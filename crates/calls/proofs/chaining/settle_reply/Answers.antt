@@ -1,7 +1,6 @@
 -- Halves in order: nothing is asked of their sides.
 use Rattle.rules.specs.Calls.{ordered}
 use Rattle.chain.proofs.Deriving.{handed}
-use borrow.Author.Rules.{rules}
 use Rattle.calls.proofs.chaining.settle_reply.Goals as goal
 
 pub settled-requires : goal.settled-requires

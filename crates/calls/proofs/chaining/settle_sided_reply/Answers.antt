@@ -1,7 +1,6 @@
 -- The halves put in order.
 use Rattle.rules.specs.Calls.{sided}
 use Rattle.chain.proofs.Deriving.{handed_in_order}
-use borrow.Author.Rules.{rules}
 use Rattle.calls.proofs.chaining.settle_sided_reply.Goals as goal
 
 pub settled-requires : goal.settled-requires

@@ -1,5 +1,4 @@
 -- 4 on an unsound directory; else the row's refusal, or the row is added.
-use borrow.Author.Rules.{rules}
 use mathlib.Core.Path.{◌∙◌}
 use Rattle.rules.specs.Entries.{csd_row}
 use Rattle.calls.proofs.Admitted.{nothing_kept_lem}

@@ -1,5 +1,4 @@
 -- 3 first; else the sum of all balances.
-use borrow.Author.Rules.{rules}
 use mathlib.Core.Path.{◌∙◌}
 use Rattle.calls.proofs.Decided.{cash_misfit, cash_passed}
 use Rattle.calls.proofs.moving.cash_total.Goals as goal

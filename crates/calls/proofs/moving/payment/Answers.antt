@@ -1,5 +1,4 @@
 -- 3 and 4 first; else what the stream's function answers and leaves over the index.
-use borrow.Author.Rules.{rules}
 use Rattle.booking.specs.Moves.{way_of}
 use Rattle.calls.proofs.Admitted.{nothing_kept_lem}
 use Rattle.calls.proofs.Decided.{payment_refused, payment_passed}

@@ -1,5 +1,4 @@
 -- 3 and 4 first; else the sum of participant positions.
-use borrow.Author.Rules.{rules}
 use mathlib.Core.Path.{◌∙◌}
 use Rattle.calls.proofs.Admitted.{nothing_kept_lem}
 use Rattle.calls.proofs.Decided.{total_refused, total_passed}

@@ -1,9 +1,9 @@
 -- Steps stored one after the other at the start of the list are the steps, and then the rest of the list.
 use Rattle.std.proofs.Common.{rules, ◌≡◌, length, arith}
-use mathlib.Core.Path.{refl, sym, ◌∙◌}
+use mathlib.Core.Path.{refl, ◌∙◌}
 use native.Mathlib.Numerals.{add-one}
 use Rattle.rules.specs.Chain.{step_limit}
-use Rattle.calls.proofs.Stored.{step_in, stored, length_stored, stored_written}
+use Rattle.calls.proofs.Stored.{stored_written}
 use Rattle.desk.proofs.lent.put_steps.Goals as goal
 
 pub loop-i-init : goal.loop-i-init

@@ -1,7 +1,6 @@
 -- The stores one after another, at the number that the count gave.
 use mathlib.Core.Path.{◌∙◌}
 use Rattle.entries.specs.Entered.{counted, with_account}
-use borrow.Author.Rules.{rules}
 use Rattle.entries.proofs.entries.add_account.Goals as goal
 
 pub returns : goal.returns

@@ -3,7 +3,6 @@ use mathlib.Core.Path.{◌∙◌}
 use borrow.Author.Tests.{eq-eqb, ne_eqb}
 use Rattle.rules.specs.Directory.{no_account}
 use Rattle.entries.specs.Entered.{with_duo}
-use borrow.Author.Rules.{rules}
 use Rattle.entries.proofs.entries.add_duo.Goals as goal
 
 pub returns-then-account-eq-NO_ACCOUNT : goal.returns-then-account-eq-NO_ACCOUNT

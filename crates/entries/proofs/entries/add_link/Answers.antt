@@ -1,7 +1,6 @@
 -- The numbers one after another.
 use mathlib.Core.Path.{◌∙◌}
 use Rattle.entries.specs.Entered.{counted, with_link}
-use borrow.Author.Rules.{rules}
 use Rattle.entries.proofs.entries.add_link.Goals as goal
 
 pub returns : goal.returns

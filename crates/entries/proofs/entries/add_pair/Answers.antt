@@ -1,7 +1,6 @@
 -- The stores one after another.
 use mathlib.Core.Path.{◌∙◌}
 use Rattle.entries.specs.Entered.{counted, with_pair}
-use borrow.Author.Rules.{rules}
 use Rattle.entries.proofs.entries.add_pair.Goals as goal
 
 pub returns : goal.returns

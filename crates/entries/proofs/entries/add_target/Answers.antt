@@ -1,7 +1,6 @@
 -- Only an investor link has one.
 use borrow.Author.Tests.{eq-eqb, ne_eqb}
 use Rattle.entries.specs.Entered.{with_target}
-use borrow.Author.Rules.{rules}
 use Rattle.entries.proofs.entries.add_target.Goals as goal
 
 pub returns-then-row-ne1 : goal.returns-then-row-ne1

@@ -1,5 +1,5 @@
 -- An amount of 0 is never short; any other is held against the balance.
-use borrow.Author.Rules.{rules, sfits_of}
+use borrow.Author.Rules.{sfits_of}
 use borrow.Author.Tests.{ne_eqb}
 use mir.Facts.{to_z-of_z}
 use mir.Syntax.{w64}

@@ -1,5 +1,4 @@
 -- An amount of 0 touches nothing; any other is judged by the two tests.
-use borrow.Author.Rules.{rules}
 use borrow.Author.Tests.{ne_eqb}
 use Rattle.rules.specs.Booking.{payment_beyond}
 use Rattle.holdings.proofs.cash.payment_beyond.Goals as goal

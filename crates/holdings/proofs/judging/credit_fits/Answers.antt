@@ -1,8 +1,7 @@
 -- What is held is in the range whose ends the units leave.
-use borrow.Author.Rules.{rules, sfits_of}
+use borrow.Author.Rules.{sfits_of}
 use mathlib.Core.Path.{◌≡◌}
 use mathlib.Core.Bool.{true}
-use native.Mathlib.Omega.{arith}
 use lib.IntN.{pos}
 use lib.ListN.{get_or}
 use mir.Facts.{to_z-of_z}
@@ -11,7 +10,7 @@ use mir.Val.{to_z, of_z}
 use Rattle.rules.specs.Booking.{held_in}
 use Rattle.amounts.proofs.Ranges.{as_signed, taken_least, taken_most, beyond_low, within_high}
 use Rattle.holdings.specs.Fitting.{stands}
-use Rattle.holdings.proofs.Fitting.{behind, within, held_there}
+use Rattle.holdings.proofs.Fitting.{within, held_there}
 use Rattle.holdings.proofs.judging.credit_fits.Goals as goal
 
 pub returns-then-held-units : goal.returns-then-held-units

@@ -1,8 +1,7 @@
 -- What is held is compared with the units: held against 0 and the lower end of the range where it is less, against the upper end where it is not.
-use borrow.Author.Rules.{rules, sfits_of}
+use borrow.Author.Rules.{sfits_of}
 use mathlib.Core.Path.{◌≡◌, sym, ◌∙◌}
 use mathlib.Core.Bool.{true, and-false}
-use native.Mathlib.Omega.{arith}
 use lib.IntN.{pos}
 use lib.ListN.{get_or}
 use lib.Signed.{lt_z}
@@ -12,7 +11,7 @@ use mir.Val.{to_z, of_z}
 use Rattle.rules.specs.Booking.{held_in}
 use Rattle.amounts.proofs.Ranges.{as_signed, given_least, given_most, within_below, within_above}
 use Rattle.holdings.specs.Fitting.{stands}
-use Rattle.holdings.proofs.Fitting.{behind, within, held_there}
+use Rattle.holdings.proofs.Fitting.{within, held_there}
 use Rattle.holdings.proofs.judging.debit_fits.Goals as goal
 
 pub returns-then-is_floored : goal.returns-then-is_floored

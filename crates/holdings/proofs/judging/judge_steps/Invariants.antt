@@ -1,12 +1,9 @@
 -- What was found so far is what the tests find in the steps so far.
-use borrow.Author.Rules.{rules}
 use mathlib.Core.Path.{◌≡◌}
 use Prim.Native.Nat.{◌≤◌, ◌-◌}
-use native.Mathlib.Omega.{arith}
 use Rattle.rules.specs.Booking.{units_short, units_beyond}
 use Rattle.index.specs.Asked.{asked}
 use Rattle.chain.specs.StepList.{steps_in}
-use Rattle.holdings.proofs.Listed.{short_more, beyond_more, short_none, beyond_none}
 use Rattle.holdings.proofs.judging.judge_steps.Given as goal
 
 abbrev pub invariant-loop-i : goal.invariant-loop-i

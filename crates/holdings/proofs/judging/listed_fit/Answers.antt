@@ -2,14 +2,10 @@
 use mathlib.Core.Bool.{not}
 use mathlib.Core.Path.{ap}
 use borrow.Author.Rules.{rules}
-use mathlib.Core.Path.{◌≡◌, sym, ◌∙◌}
-use mathlib.Core.Bool.{true}
-use Prim.Native.Nat.{◌≤◌, ◌-◌}
+use mathlib.Core.Path.{sym, ◌∙◌}
 use native.Mathlib.Omega.{arith}
 use Rattle.rules.proofs.Basics.{unnot, unnot_false}
 use Rattle.index.specs.Asked.{asked}
-use Rattle.chain.specs.StepList.{steps_in}
-use Rattle.holdings.specs.Fitting.{none_unfit}
 use Rattle.holdings.proofs.Fitting.{fit_none, fit_more, unfit_debit, unfit_credit}
 use Rattle.holdings.proofs.judging.listed_fit.Goals as goal
 

@@ -1,14 +1,10 @@
 -- The steps so far fit; the first that does not is one of those asked for.
-use borrow.Author.Rules.{rules}
-use mathlib.Core.Path.{◌≡◌, sym, ◌∙◌}
+use mathlib.Core.Path.{◌≡◌}
 use mathlib.Core.Bool.{true}
 use Prim.Native.Nat.{◌≤◌, ◌-◌}
-use native.Mathlib.Omega.{arith}
-use Rattle.rules.proofs.Basics.{unnot, unnot_false}
 use Rattle.index.specs.Asked.{asked}
 use Rattle.chain.specs.StepList.{steps_in}
 use Rattle.holdings.specs.Fitting.{none_unfit}
-use Rattle.holdings.proofs.Fitting.{fit_none, fit_more, unfit_debit, unfit_credit}
 use Rattle.holdings.proofs.judging.listed_fit.Given as goal
 
 abbrev pub invariant-loop-i : goal.invariant-loop-i

@@ -1,5 +1,4 @@
 -- A quantity out of range, another list or too many steps; else the steps decide.
-use borrow.Author.Rules.{rules}
 use borrow.Author.Tests.{le-leb, lt-leb, eq-eqb, ne_eqb}
 use native.Mathlib.Omega.{arith}
 use lib.ListN.{length}

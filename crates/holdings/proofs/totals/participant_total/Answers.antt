@@ -1,6 +1,6 @@
 -- Account by account the sum is the sum so far; the first position beyond ends it.
 use mathlib.Core.Path.{◌≡◌, sym, ap, ◌∙◌}
-use Prim.Native.Nat.{◌≤◌, ◌-◌, ◌+◌}
+use Prim.Native.Nat.{◌+◌}
 use native.Mathlib.Omega.{arith}
 use lib.IntN.{◌+ℤ◌}
 use borrow.Author.Rules.{rules, sfits_of}
@@ -11,7 +11,7 @@ use Rattle.rules.specs.Directory.{account_limit}
 use Rattle.rules.specs.Booking.{beyond, participants, held_in}
 use Rattle.index.specs.Asked.{asked}
 use Rattle.holdings.proofs.Bounds.{within_fits}
-use Rattle.holdings.proofs.Summed.{Summed, summed_none, summed_next, beyond_at, units_refused, units_summed}
+use Rattle.holdings.proofs.Summed.{Summed, summed_none, summed_next, beyond_at, units_refused}
 use Rattle.holdings.proofs.totals.participant_total.Goals as goal
 
 pub loop-account-init : goal.loop-account-init

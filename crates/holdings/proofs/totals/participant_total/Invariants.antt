@@ -1,17 +1,9 @@
 -- Account by account the sum is the sum so far; the first position beyond ends it.
-use mathlib.Core.Path.{◌≡◌, sym, ap, ◌∙◌}
-use Prim.Native.Nat.{◌≤◌, ◌-◌, ◌+◌}
-use native.Mathlib.Omega.{arith}
-use lib.IntN.{◌+ℤ◌}
-use borrow.Author.Rules.{rules, sfits_of}
-use mir.Facts.{to_z-of_z}
-use mir.Syntax.{w64}
-use mir.Val.{SFits}
+use Prim.Native.Nat.{◌≤◌, ◌-◌}
 use Rattle.rules.specs.Directory.{account_limit}
-use Rattle.rules.specs.Booking.{beyond, participants, held_in}
+use Rattle.rules.specs.Booking.{participants, held_in}
 use Rattle.index.specs.Asked.{asked}
-use Rattle.holdings.proofs.Bounds.{within_fits}
-use Rattle.holdings.proofs.Summed.{Summed, summed_none, summed_next, beyond_at, units_refused, units_summed}
+use Rattle.holdings.proofs.Summed.{Summed}
 use Rattle.holdings.proofs.totals.participant_total.Given as goal
 
 abbrev pub invariant-loop-account : goal.invariant-loop-account

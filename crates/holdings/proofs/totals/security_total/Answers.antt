@@ -1,5 +1,4 @@
 -- The security is entered, or the total is 6.
-use borrow.Author.Rules.{rules}
 use mathlib.Core.Path.{sym, ◌∙◌}
 use Rattle.holdings.specs.Sums.{security_total}
 use Rattle.holdings.proofs.totals.security_total.Goals as goal

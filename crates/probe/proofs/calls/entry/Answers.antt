@@ -9,7 +9,6 @@ use Rattle.rules.specs.Stream.{call_of}
 use Rattle.wire.proofs.Decoded.{csd_call, security_call, account_call, pair_call, link_call}
 use Rattle.probe.proofs.Read.{entry_tag}
 use Rattle.probe.proofs.Moves.{entered_by_lem}
-use borrow.Author.Rules.{rules}
 use Rattle.probe.proofs.calls.entry.Goals as goal
 
 pub returns-then-tag-eq1 : goal.returns-then-tag-eq1

@@ -1,17 +1,11 @@
 -- 1280, 1 and 2 by the tests; then what the entry answers, and what is written where it is accepted.
 use mathlib.Core.Bool.{not}
-use mathlib.Core.Path.{◌≡◌, sym, ap, ◌∙◌}
-use mathlib.Core.Bool.{false}
+use mathlib.Core.Path.{sym, ap, ◌∙◌}
 use Prim.Native.Nat.{ℕ}
 use native.Mathlib.Omega.{arith}
 use lib.ListN.{take}
-use lib.Seq.{length-take-le}
 use Rattle.rules.proofs.Basics.{unnot, unnot_false}
-use Rattle.probe.specs.Exports.{fits}
-use Rattle.codes.specs.Read.{is_entry}
-use Rattle.probe.proofs.Read.{known_is, whole_is, whole}
-use Rattle.probe.proofs.Exported.{no_counts, no_rows, entry_unread, entry_refused, entry_accepted}
-use borrow.Author.Rules.{rules}
+use Rattle.probe.proofs.Exported.{entry_unread, entry_refused, entry_accepted}
 use Rattle.probe.proofs.calls.fluzzam_enter.Goals as goal
 
 pub returns-then-number-ne0 : goal.returns-then-number-ne0

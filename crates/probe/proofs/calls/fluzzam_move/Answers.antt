@@ -1,15 +1,9 @@
 -- 1280, 1 and 2 by the tests; then what the movement answers and leaves.
-use mathlib.Core.Path.{◌≡◌, sym, ap}
-use mathlib.Core.Bool.{false}
+use mathlib.Core.Path.{ap}
 use Prim.Native.Nat.{ℕ}
 use native.Mathlib.Omega.{arith}
 use lib.ListN.{take}
-use lib.Seq.{length-take-le}
-use Rattle.probe.specs.Exports.{fits}
-use Rattle.codes.specs.Read.{is_move}
-use Rattle.probe.proofs.Read.{known_is, whole_is}
-use Rattle.probe.proofs.Exported.{no_counts, no_rows, move_unread, moved}
-use borrow.Author.Rules.{rules}
+use Rattle.probe.proofs.Exported.{move_unread, moved}
 use Rattle.probe.proofs.calls.fluzzam_move.Goals as goal
 
 pub returns-then-number-ne0 : goal.returns-then-number-ne0

@@ -1,14 +1,10 @@
 -- 1280 and 2 by the tests; then what the settlement answers and leaves.
-use mathlib.Core.Path.{◌≡◌, refl, sym, ap}
-use mathlib.Core.Bool.{false}
+use mathlib.Core.Path.{refl, ap}
 use Prim.Native.Nat.{ℕ}
 use native.Mathlib.Omega.{arith}
 use lib.ListN.{take}
-use lib.Seq.{length-take-le}
-use Rattle.probe.specs.Exports.{fits}
 use Rattle.wire.specs.Operands.{halves_in, day_in}
-use Rattle.probe.proofs.Exported.{no_counts, no_rows, settle_cut, settled}
-use borrow.Author.Rules.{rules}
+use Rattle.probe.proofs.Exported.{settle_cut, settled}
 use Rattle.probe.proofs.calls.settle.Goals as goal
 
 pub returns-then-bytes-end : goal.returns-then-bytes-end

@@ -7,7 +7,6 @@ use Rattle.rules.specs.Entries.{csd_row, security_row}
 use Rattle.rules.specs.Calls.{enter}
 use Rattle.wire.proofs.Decoded.{csd_call, security_call, account_call, link_call, known_tag}
 use Rattle.stream.proofs.Obeying.{entry_obeys, row_obeys}
-use borrow.Author.Rules.{rules}
 use Rattle.stream.proofs.commands.enter.Goals as goal
 
 pub returns-then-tag-eq1 : goal.returns-then-tag-eq1

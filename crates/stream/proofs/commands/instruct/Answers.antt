@@ -2,7 +2,6 @@
 use Rattle.wire.specs.Operands.{halves_in}
 use Rattle.chain.proofs.Deriving.{handed_in_order}
 use Rattle.stream.proofs.CallKinds.{pair_call}
-use borrow.Author.Rules.{rules}
 use Rattle.stream.proofs.commands.instruct.Goals as goal
 
 pub returns : goal.returns

@@ -2,7 +2,6 @@
 use Rattle.chain.proofs.Deriving.{handed_derives}
 use Rattle.booking.proofs.Settled.{handed_settles}
 use Rattle.stream.proofs.Obeying.{settle_obeys, derive_obeys}
-use borrow.Author.Rules.{rules}
 use Rattle.stream.proofs.commands.instruct_pair.Goals as goal
 
 pub returns-then-settles : goal.returns-then-settles

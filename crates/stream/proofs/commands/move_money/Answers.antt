@@ -6,7 +6,6 @@ use Rattle.booking.specs.Moves.{way_of}
 use Rattle.wire.specs.declared.operands.Payment.{Payment}
 use Rattle.stream.proofs.CallKinds.{pay_call}
 use Rattle.stream.proofs.Obeying.{pay_obeys}
-use borrow.Author.Rules.{rules}
 use Rattle.stream.proofs.commands.move_money.Goals as goal
 
 pub returns : goal.returns

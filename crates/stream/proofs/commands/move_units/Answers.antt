@@ -6,7 +6,6 @@ use Rattle.booking.specs.Moves.{way_of}
 use Rattle.wire.specs.declared.operands.Move.{Move}
 use Rattle.stream.proofs.CallKinds.{move_call}
 use Rattle.stream.proofs.Obeying.{move_obeys}
-use borrow.Author.Rules.{rules}
 use Rattle.stream.proofs.commands.move_units.Goals as goal
 
 pub returns : goal.returns

@@ -4,7 +4,6 @@ use native.Mathlib.Omega.{arith}
 use Rattle.rules.specs.Calls.{enter}
 use Rattle.wire.proofs.Decoded.{pair_call, known_tag}
 use Rattle.stream.proofs.Obeying.{row_obeys}
-use borrow.Author.Rules.{rules}
 use Rattle.stream.proofs.commands.obey.Goals as goal
 
 pub returns-then-tag-lt6 : goal.returns-then-tag-lt6

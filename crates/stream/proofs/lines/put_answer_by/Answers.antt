@@ -1,8 +1,6 @@
 -- `stream::lines::put_answer_by` meets its contract: each answer has its word, its number behind it, and the line's end. Assumes nothing.
-use borrow.Author.Rules.{rules}
 use mathlib.Core.Path.{sym, ap}
 use mathlib.Core.List.{[], ◌∷◌, ◌++◌}
-use native.Mathlib.Omega.{arith}
 use Rattle.rules.specs.declared.Answer.{Answer}
 use Rattle.rules.specs.Stream.{answer_text}
 use Rattle.text.proofs.Appends.{then, named}

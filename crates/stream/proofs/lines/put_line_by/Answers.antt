@@ -1,5 +1,4 @@
 -- `stream::lines::put_line_by` meets its contract: the number and a space, then the answer. Assumes nothing.
-use borrow.Author.Rules.{rules}
 use mathlib.Core.Path.{sym, ◌∙◌}
 use mathlib.Core.List.{[], ◌∷◌, ◌++◌, append_assoc}
 use Rattle.rules.specs.Stream.{decimal, answer_text}

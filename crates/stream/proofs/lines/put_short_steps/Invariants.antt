@@ -1,14 +1,10 @@
 -- `stream::lines::put_short_steps` meets its contract: so far the lines of the first steps are appended, and there is room for the others. Assumes nothing.
-use borrow.Author.Rules.{rules}
-use mathlib.Core.Path.{◌≡◌, refl, ap, ◌∙◌}
-use Prim.Native.Nat.{ℕ, ◌+◌, ◌*◌, ◌-◌, ◌≤◌}
-use native.Mathlib.Omega.{arith}
+use mathlib.Core.Path.{◌≡◌}
+use Prim.Native.Nat.{◌+◌, ◌*◌, ◌-◌, ◌≤◌}
 use lib.ListN.{length}
 use Rattle.rules.specs.Stream.{step_lines}
 use Rattle.chain.specs.StepList.{steps_in}
 use Rattle.text.specs.Appended.{Appended}
-use Rattle.text.proofs.Appends.{no_bytes, named}
-use Rattle.stream.proofs.Telling.{step_more}
 use Rattle.stream.proofs.lines.put_short_steps.Given as goal
 
 abbrev pub invariant-loop-i : goal.invariant-loop-i

@@ -1,5 +1,4 @@
 -- `stream::words::put_before` meets its contract: the number's text is the end of its word, which ends there. Assumes nothing.
-use borrow.Author.Rules.{rules}
 use mathlib.Core.Path.{refl}
 use mathlib.Core.List.{[], ◌∷◌, ◌++◌}
 use native.Mathlib.Omega.{arith}

@@ -1,11 +1,9 @@
 -- `stream::words::put_sizes` meets its contract: so far the sizes of the first numbers stand there. Assumes nothing.
-use borrow.Author.Rules.{rules}
-use mathlib.Core.Path.{◌≡◌, sym, ap, ◌∙◌}
-use Prim.Native.Nat.{ℕ, ◌-◌, ◌≤◌}
+use mathlib.Core.Path.{sym, ap, ◌∙◌}
+use Prim.Native.Nat.{ℕ}
 use native.Mathlib.Omega.{arith}
-use lib.ListN.{length, take}
+use lib.ListN.{take}
 use Rattle.text.proofs.Appends.{fits}
-use Rattle.stream.specs.Words.{sizes_to}
 use Rattle.stream.proofs.Table.{no_sizes, size_more, all_sizes}
 use Rattle.stream.proofs.words.put_sizes.Goals as goal
 

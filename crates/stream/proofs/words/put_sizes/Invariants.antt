@@ -1,12 +1,8 @@
 -- `stream::words::put_sizes` meets its contract: so far the sizes of the first numbers stand there. Assumes nothing.
-use borrow.Author.Rules.{rules}
-use mathlib.Core.Path.{◌≡◌, sym, ap, ◌∙◌}
-use Prim.Native.Nat.{ℕ, ◌-◌, ◌≤◌}
-use native.Mathlib.Omega.{arith}
+use mathlib.Core.Path.{◌≡◌}
+use Prim.Native.Nat.{◌-◌, ◌≤◌}
 use lib.ListN.{length, take}
-use Rattle.text.proofs.Appends.{fits}
 use Rattle.stream.specs.Words.{sizes_to}
-use Rattle.stream.proofs.Table.{no_sizes, size_more, all_sizes}
 use Rattle.stream.proofs.words.put_sizes.Given as goal
 
 abbrev pub invariant-loop-n : goal.invariant-loop-n

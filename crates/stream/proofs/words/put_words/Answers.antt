@@ -1,12 +1,11 @@
 -- `stream::words::put_words` meets its contract: so far the words of the first numbers stand there. Assumes nothing.
-use borrow.Author.Rules.{rules}
 use mathlib.Core.Path.{◌≡◌, sym, ap, ◌∙◌}
-use Prim.Native.Nat.{ℕ, ◌+◌, ◌*◌, ◌-◌, ◌≤◌}
+use Prim.Native.Nat.{ℕ, ◌+◌, ◌*◌}
 use mathlib.Core.List.{List, ◌++◌}
 use native.Mathlib.Omega.{arith}
-use lib.ListN.{length, take}
+use lib.ListN.{take}
 use Rattle.text.proofs.Appends.{fits}
-use Rattle.stream.specs.Words.{word_of, words_to}
+use Rattle.stream.specs.Words.{word_of}
 use Rattle.stream.proofs.Table.{no_words, word_more, all_words}
 use Rattle.stream.proofs.words.put_words.Goals as goal
 

@@ -1,13 +1,8 @@
 -- `stream::words::put_words` meets its contract: so far the words of the first numbers stand there. Assumes nothing.
-use borrow.Author.Rules.{rules}
-use mathlib.Core.Path.{◌≡◌, sym, ap, ◌∙◌}
-use Prim.Native.Nat.{ℕ, ◌+◌, ◌*◌, ◌-◌, ◌≤◌}
-use mathlib.Core.List.{List, ◌++◌}
-use native.Mathlib.Omega.{arith}
+use mathlib.Core.Path.{◌≡◌}
+use Prim.Native.Nat.{◌*◌, ◌-◌, ◌≤◌}
 use lib.ListN.{length, take}
-use Rattle.text.proofs.Appends.{fits}
-use Rattle.stream.specs.Words.{word_of, words_to}
-use Rattle.stream.proofs.Table.{no_words, word_more, all_words}
+use Rattle.stream.specs.Words.{words_to}
 use Rattle.stream.proofs.words.put_words.Given as goal
 
 abbrev pub invariant-loop-n : goal.invariant-loop-n

@@ -1,6 +1,4 @@
 -- `stream::words::size_at` meets its contract: a number's size stands at its place, and is 2 to 4. Assumes nothing.
-use borrow.Author.Rules.{rules}
-use native.Mathlib.Omega.{arith}
 use Rattle.stream.proofs.Table.{few_bytes, size_stands}
 use Rattle.stream.proofs.words.size_at.Goals as goal
 

@@ -1,5 +1,4 @@
 -- `text::lines::put_step` meets its contract: one text after another. Assumes nothing.
-use borrow.Author.Rules.{rules}
 use Rattle.rules.specs.Stream.{step_line}
 use Rattle.text.proofs.Appends.{then}
 use Rattle.text.proofs.lines.put_step.Goals as goal

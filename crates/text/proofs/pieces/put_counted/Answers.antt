@@ -1,5 +1,4 @@
 -- `text::pieces::put_counted` meets its contract: one text after another. Assumes nothing.
-use borrow.Author.Rules.{rules}
 use Rattle.text.proofs.Appends.{then}
 use Rattle.text.proofs.pieces.put_counted.Goals as goal
 

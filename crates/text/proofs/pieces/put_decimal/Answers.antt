@@ -1,5 +1,4 @@
 -- `text::pieces::put_decimal` meets its contract: below a million the last three digits stand behind those of a thousandth. Assumes nothing.
-use borrow.Author.Rules.{rules}
 use native.Mathlib.Omega.{arith}
 use Rattle.text.proofs.Appends.{then, named}
 use Rattle.text.proofs.Digits.{thousands}

@@ -1,5 +1,4 @@
 -- `text::pieces::put_few` meets its contract: a number below 10 has one digit, below 100 two, below 1,000 three. Assumes nothing.
-use borrow.Author.Rules.{rules}
 use mathlib.Core.Path.{sym}
 use native.Mathlib.Omega.{arith}
 use Rattle.text.proofs.Appends.{then, named}

@@ -1,5 +1,4 @@
 -- `text::pieces::put_signed` meets its contract: a minus where the number is below 0, then its magnitude. Assumes nothing.
-use borrow.Author.Rules.{rules}
 use Rattle.text.proofs.Appends.{named}
 use Rattle.text.proofs.Signs.{written_below, written_above}
 use Rattle.text.proofs.pieces.put_signed.Goals as goal

@@ -1,5 +1,4 @@
 -- `text::pieces::put_three` meets its contract: one byte after another. Assumes nothing.
-use borrow.Author.Rules.{rules}
 use Rattle.text.proofs.Appends.{then, named}
 use Rattle.text.proofs.Digits.{listed}
 use Rattle.text.proofs.pieces.put_three.Goals as goal

@@ -1,11 +1,7 @@
 -- `text::pieces::put_word` meets its contract: so far the word's first bytes are appended. Assumes nothing.
-use borrow.Author.Rules.{rules}
 use Prim.Native.Nat.{◌-◌, ◌≤◌}
-use native.Mathlib.Omega.{arith}
 use lib.ListN.{length, take}
-use lib.Seq.{take_all}
 use Rattle.text.specs.Appended.{Appended}
-use Rattle.text.proofs.Appends.{no_bytes, more, named}
 use Rattle.text.proofs.pieces.put_word.Given as goal
 
 abbrev pub invariant-loop-i : goal.invariant-loop-i
