@@ -1,4 +1,4 @@
-//! Finds the proved library. `rt lib probe`, at the root of the repository, writes it.
+//! Finds the proved library. `rt lib`, in crates/probe, writes it.
 
 use std::path::Path;
 
@@ -8,7 +8,7 @@ fn main() {
     println!("cargo:rerun-if-changed={}", archive.display());
     assert!(
         archive.is_file(),
-        "crates/probe/out/libprobe.a is missing: run `rt lib probe` at the root of the repository"
+        "crates/probe/out/libprobe.a is missing: run `rt lib` in crates/probe"
     );
     println!("cargo:rustc-link-search=native={}", folder.display());
     println!("cargo:rustc-link-lib=static=probe");

@@ -2,4 +2,4 @@
 // handed in, sound or not, and lists of any length.
 #![tactic(auto)]
 
-pub mod calls; // calls.rt: the calls, and their answers as numbers
+pub mod boundary; // boundary.rt: the calls, and their answers as numbers

@@ -9,7 +9,7 @@ use Rattle.rules.specs.Stream.{call_of}
 use Rattle.wire.proofs.Decoded.{csd_call, security_call, account_call, pair_call, link_call}
 use Rattle.probe.proofs.Read.{entry_tag}
 use Rattle.probe.proofs.Moves.{entered_by_lem}
-use Rattle.probe.proofs.calls.entry.Goals as goal
+use Rattle.probe.proofs.boundary.entry.Goals as goal
 
 pub returns-then-tag-eq1 : goal.returns-then-tag-eq1
 returns-then-tag-eq1 c =

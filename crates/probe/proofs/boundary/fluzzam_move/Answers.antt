@@ -4,7 +4,7 @@ use Prim.Native.Nat.{ℕ}
 use native.Mathlib.Omega.{arith}
 use lib.ListN.{take}
 use Rattle.probe.proofs.Exported.{move_unread, moved}
-use Rattle.probe.proofs.calls.fluzzam_move.Goals as goal
+use Rattle.probe.proofs.boundary.fluzzam_move.Goals as goal
 
 pub returns-then-number-ne0 : goal.returns-then-number-ne0
 returns-then-number-ne0 c =

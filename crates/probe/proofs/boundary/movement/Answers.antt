@@ -9,7 +9,7 @@ use Rattle.wire.specs.declared.operands.Payment.{Payment}
 use Rattle.wire.proofs.Decoded.{bring_in_call, take_out_call, pay_in_call, pay_out_call}
 use Rattle.probe.proofs.Read.{move_tag}
 use Rattle.probe.proofs.Moves.{moved, paid}
-use Rattle.probe.proofs.calls.movement.Goals as goal
+use Rattle.probe.proofs.boundary.movement.Goals as goal
 
 pub returns-then-tag-eq6 : goal.returns-then-tag-eq6
 returns-then-tag-eq6 c =

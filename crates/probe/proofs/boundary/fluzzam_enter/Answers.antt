@@ -6,7 +6,7 @@ use native.Mathlib.Omega.{arith}
 use lib.ListN.{take}
 use Rattle.rules.proofs.Basics.{unnot, unnot_false}
 use Rattle.probe.proofs.Exported.{entry_unread, entry_refused, entry_accepted}
-use Rattle.probe.proofs.calls.fluzzam_enter.Goals as goal
+use Rattle.probe.proofs.boundary.fluzzam_enter.Goals as goal
 
 pub returns-then-number-ne0 : goal.returns-then-number-ne0
 returns-then-number-ne0 c =

@@ -5,7 +5,7 @@ use native.Mathlib.Omega.{arith}
 use lib.ListN.{take}
 use Rattle.wire.specs.Operands.{halves_in, day_in}
 use Rattle.probe.proofs.Exported.{derive_cut, derived}
-use Rattle.probe.proofs.calls.derive.Goals as goal
+use Rattle.probe.proofs.boundary.derive.Goals as goal
 
 pub returns-then-bytes-end : goal.returns-then-bytes-end
 returns-then-bytes-end c =
