@@ -84,10 +84,6 @@ size (pos n) = omega arith
 size (negsuc n) = omega arith
 
 -- what 64 bits hold
-pub fits_dn : (z : ℤ) → SFits w64 z → dn z ≤ up z + 2 ^ 63
-fits_dn (pos n) f = omega arith
-fits_dn (negsuc n) f = omega (arith, f.sfits)
-
 pub to_fits : (z : ℤ) → up z < dn z + 2 ^ 63 → dn z ≤ up z + 2 ^ 63 → SFits w64 z
 to_fits (pos n) h k = record { sfits = omega arith }
 to_fits (negsuc n) h k = record { sfits = omega arith }

@@ -1,3 +1,3 @@
 pub mod Integers
-pub mod Sizes
+pub mod Saturated
 pub mod Ranges

@@ -3,23 +3,31 @@ use Prim.Native.Nat.{ℕ}
 use mathlib.Core.Path.{◌≡◌, refl}
 use mathlib.Core.Option.{Option, none, some}
 use Rattle.rules.specs.Lookups.{Lookups}
-use Rattle.rules.specs.Booking.{inter_csd, contra}
+use Rattle.rules.specs.Booking.{mirror_of, inter_csd, contra}
 use Rattle.rules.proofs.Basics.{impossible}
 use Rattle.index.specs.declared.links.Leading.TheVariants.{Issuer, To, Nowhere}
-use Rattle.index.specs.Found.{leading_of}
+use Rattle.index.specs.Found.{pair_found, leading_of}
 use Rattle.index.proofs.Leads.{issuer_told, default_told, nothing_told}
-use Rattle.booking.specs.declared.moves.Contra.TheVariants.{At, Missing}
+use Rattle.std.specs.Prelude.{Some, None, Option as Answered}
+use Rattle.std.specs.Option.{option_map}
+use Rattle.rules.specs.declared.Pair.{Pair}
 use Rattle.booking.specs.Moves.{contra_found}
 
-pub contra_at : (o : Option ℕ) (a : ℕ) → contra_found o ≡ At a → o ≡ some a
+pub contra_at : (o : Option ℕ) (a : ℕ) → contra_found o ≡ Some a → o ≡ some a
 unfolding contra_found
 contra_at none a e = impossible (cc)
 contra_at (some b) a e = cc
 
-pub contra_missing : (o : Option ℕ) → contra_found o ≡ Missing → o ≡ none
+pub contra_missing : (o : Option ℕ) → contra_found o ≡ None → o ≡ none
 unfolding contra_found
 contra_missing none e = refl
 contra_missing (some b) e = impossible (cc)
+
+-- a pair's account in the investor's books, by the row found
+pub mirror_found : (o : Option Pair) (r : Answered ℕ) → r ≡ option_map (λ x. x.mirror) (pair_found o) → r ≡ contra_found (mirror_of o)
+unfolding contra_found pair_found
+mirror_found none r e = e
+mirror_found (some x) r e = e
 
 module _ (k : Lookups) (s c a : ℕ) where
   pub contra_issued : leading_of (k.issuer s c) (k.onward s c) ≡ Issuer → contra k s c a ≡ some (k.issuing s c)

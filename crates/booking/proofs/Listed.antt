@@ -48,35 +48,31 @@ booked_none b s q p = refl
 
 -- ---- the first n steps can be booked, those before the step i are: the step i has room, and is booked next
 module _ (b : List ℕ) (i s q : ℕ) (p : List ℤ) (n : ℕ) (can : Bookable p s q b n) (here : i < n) (p' : List ℤ) (is : p' ≡ booked (steps_in b i) s q p) where
-  -- the step i
-  abbrev next : Step
-  next = step (get_or b (3 * i) 0 % 256) (get_or b (3 * i + 1) 0) (get_or b (3 * i + 2) 0)
-
-  next_is : step_at b i ≡ next
-  next_is = step_here b i can.size (omega arith)
-
-  pub next_room : Room p' s q next
+  pub next_room : Room p' s q (step_at b i)
   next_room =
       let passed = rw (steps_more b i) at (beyond_part b p s q n (i + 1) (omega arith) can.passes) in
       let touches = touched (steps_in b i ++ (step_at b i ∷ [])) s q p can.small passed in
-      rw (is, ← next_is)
+      rw is
       (room (2 + 2 * length (steps_in b i)) s q (booked (steps_in b i) s q p) can.small (step_at b i) (omega (arith, steps_counted b i))
       (touch_last (steps_in b i) (step_at b i) 2 s q p can.small touches))
 
-  pub next_booked : moved next s q p' ≡ booked (steps_in b (i + 1)) s q p
-  next_booked = rw (is, ← next_is, steps_more b i, booked_last (steps_in b i) (step_at b i) s q p)
+  pub next_booked : moved (step_at b i) s q p' ≡ booked (steps_in b (i + 1)) s q p
+  next_booked = rw (is, steps_more b i, booked_last (steps_in b i) (step_at b i) s q p)
 
-  -- the same by the places of its two positions
+  -- the same by its numbers in the list, and the places of its two positions
+  next_is : step_at b i ≡ step (get_or b (3 * i) 0 % 256) (get_or b (3 * i + 1) 0) (get_or b (3 * i + 2) 0)
+  next_is = step_here b i can.size (omega arith)
+
   module _ (from to : ℕ) (from_is : from ≡ place s (get_or b (3 * i + 1) 0)) (to_is : to ≡ place s (get_or b (3 * i + 2) 0)) where
     pub debit_room : SFits w64 (get_or p' from (pos 0) +ℤ neg_ℤ (pos q))
     unfolding position
-    debit_room = rw from_is next_room.debit
+    debit_room = rw from_is (rw next_is at next_room).debit
 
     module _ (between : List ℤ) (gave : between ≡ set p' from (get_or p' from (pos 0) +ℤ neg_ℤ (pos q))) where
       pub credit_room : SFits w64 (get_or between to (pos 0) +ℤ pos q)
       unfolding position add_units
-      credit_room = rw (gave, from_is, to_is) next_room.credit
+      credit_room = rw (gave, from_is, to_is) (rw next_is at next_room).credit
 
       pub both_booked : set between to (get_or between to (pos 0) +ℤ pos q) ≡ booked (steps_in b (i + 1)) s q p
       unfolding position add_units moved
-      both_booked = rw (gave, from_is, to_is) next_booked
+      both_booked = rw (gave, from_is, to_is) (rw next_is at next_booked)

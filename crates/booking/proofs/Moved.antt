@@ -7,15 +7,18 @@ use mathlib.Core.Option.{none, some}
 use native.Mathlib.Omega.{arith}
 use lib.Dec.{eqb}
 use lib.IntN.{ℤ}
-use borrow.Author.Tests.{ne_eqb}
+use Rattle.std.specs.Prelude.{Result, Ok, Err}
 use Rattle.rules.specs.declared.Step.{Step}
-use Rattle.rules.specs.declared.Answer.{Answer}
-use Rattle.rules.specs.declared.Answer.TheVariants.{Accepted, Refused}
+use Rattle.rules.specs.declared.refusal.Refusal.{Refusal}
+use Rattle.rules.specs.declared.answer.Answer.{Answer}
+use Rattle.rules.specs.declared.answer.Answer.TheVariants.{Refused}
+use Rattle.rules.specs.Numbers.{number, refused_by, accepted_by}
 use Rattle.rules.specs.Tests.{Condition, ◌when◌, first_of}
 use Rattle.rules.specs.Lookups.{Lookups}
 use Rattle.rules.specs.Chain.{Chain, chained, steps_of, chain_conditions}
 use Rattle.rules.specs.Booking.{Way, limit, move_step, contra, move_chain, move_conditions, moved, booked, step_short, step_beyond, units_short, units_beyond}
 use Rattle.rules.proofs.Basics.{quiet}
+use Rattle.rules.proofs.Numbered.{number_ne0, number_test}
 use Rattle.rules.proofs.Conditions.{first_before, first_after}
 use Rattle.booking.specs.Room.{Room}
 use Rattle.booking.specs.Moves.{operand_conditions, step_conditions, move_outcome}
@@ -55,34 +58,32 @@ module _ (k : Lookups) (p : List ℤ) (w : Way) (a s q : ℕ) where
   refused_with zero e nonzero = absurd (nonzero refl)
   refused_with (suc n) e nonzero = rw (← e) (refl, refl)
 
-  pub by_operands : (n : ℕ) → n ≡ first_of (operand_conditions k a s q) → (n ≡ 0 → ⊥) → Moves (Refused n) p
-  by_operands n e nonzero =
-      refused_with n (e ∙ sym (first_before (operand_conditions k a s q) (later (move_chain k w a s)) (λ z. nonzero (e ∙ z)))) nonzero
+  pub by_operands : (y : Refusal) → number y ≡ first_of (operand_conditions k a s q) → Moves (Refused (number y)) p
+  by_operands y e =
+      refused_with (number y) (e ∙ sym (first_before (operand_conditions k a s q) (later (move_chain k w a s)) (λ z. number_ne0 y (e ∙ z)))) (number_ne0 y)
 
-  module _ (n : ℕ) (is : n ≡ first_of (operand_conditions k a s q)) (ok : n ≡ 0) where
+  module _ (ok : 0 ≡ first_of (operand_conditions k a s q)) where
     then_later : first_of (move_conditions k p w a s q) ≡ first_of (later (move_chain k w a s))
-    then_later = first_after (operand_conditions k a s q) (later (move_chain k w a s)) (quiet (operand_conditions k a s q) refl (sym is ∙ ok))
+    then_later = first_after (operand_conditions k a s q) (later (move_chain k w a s)) (quiet (operand_conditions k a s q) refl (sym ok))
 
     module _ (c : ℕ) (home : c ≡ k.home a) where
       pub by_contra : contra k s c a ≡ none → Moves (Refused 19) p
       unfolding move_chain
       by_contra e = refused_with 19 (sym (then_later ∙ rw (← home, e))) (λ z. omega arith)
 
-      -- the step is judged, and the positions left are told by its number
-      module _ (other : ℕ) (found : contra k s c a ≡ some other) (x : Step) (step : x ≡ move_step w c a other)
-          (m : ℕ) (number : m ≡ first_of (step_conditions k.kind p s q x)) (p' : List ℤ) (left : p' ≡ cond (eqb m 0) (moved x s q p) p) where
+      -- the step is judged, and the positions left are told by its refusal
+      module _ (other : ℕ) (found : contra k s c a ≡ some other) (x : Step) (step : x ≡ move_step w c a other) where
         only : move_chain k w a s ≡ chained (x ∷ [])
         unfolding move_chain
         only = rw (← home, found, step)
 
-        whole : m ≡ first_of (move_conditions k p w a s q)
-        whole = number ∙ sym (then_later ∙ rw (only, short_one p s q x k.kind, beyond_one p s q x))
+        whole : first_of (move_conditions k p w a s q) ≡ first_of (step_conditions k.kind p s q x)
+        whole = then_later ∙ rw (only, short_one p s q x k.kind, beyond_one p s q x)
 
-        pub by_step : (m ≡ 0 → ⊥) → Moves (Refused m) p'
-        by_step nonzero =
-            let r = refused_with m whole nonzero in
-            (r.0, rw (ne_eqb m 0 nonzero) at left ∙ r.1)
-
-        pub by_none : m ≡ 0 → Moves Accepted p'
+        pub by_step : (r : Result (Unit {0}) Refusal) → refused_by r ≡ first_of (step_conditions k.kind p s q x) → (p' : List ℤ)
+            → p' ≡ cond (eqb (refused_by r) 0) (moved x s q p) p → Moves (accepted_by r) p'
         unfolding move_outcome
-        by_none clear = rw (← whole, clear) (refl, rw clear at left ∙ rw only (sym (booked_one p s q x)))
+        by_step (Ok y) e p' left = rw (whole, ← e) (refl, left ∙ rw only (sym (booked_one p s q x)))
+        by_step (Err y) e p' left =
+            let t = refused_with (number y) (e ∙ sym whole) (number_ne0 y) in
+            (t.0, rw (number_test y) at left ∙ t.1)

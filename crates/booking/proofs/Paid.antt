@@ -9,10 +9,13 @@ use lib.IntN.{ℤ, pos, neg_ℤ, ◌+ℤ◌}
 use mir.Syntax.{w64}
 use mir.Val.{SFits}
 use Rattle.rules.specs.declared.Cents.{Cents}
-use Rattle.rules.specs.declared.Answer.TheVariants.{Accepted, Refused}
+use Rattle.rules.specs.declared.refusal.Refusal.{Refusal}
+use Rattle.rules.specs.declared.answer.Answer.TheVariants.{Accepted, Refused}
+use Rattle.rules.specs.Numbers.{number}
+use Rattle.rules.proofs.Numbered.{number_ne0}
 use Rattle.rules.specs.Tests.{first_of}
 use Rattle.rules.specs.Lookups.{Lookups}
-use Rattle.rules.specs.Booking.{Way, limit, balance, add_cents, plus_cents, cents, less_cents, cash_on, cash_beyond, payment, pay_conditions, paid, payment_beyond}
+use Rattle.rules.specs.Booking.{Way, limit, balance, add_cents, plus_cents, cents, less_cents, cash_on, cash_beyond, payment, pay_conditions, payment_beyond}
 use Rattle.rules.proofs.Basics.{or_none}
 use Rattle.holdings.proofs.Bounds.{within_one, within_plus, within_fits}
 use Rattle.booking.specs.Moves.{way_of}
@@ -38,14 +41,6 @@ module _ (c : List ℤ) (payer payee m : ℕ) (some : eqb m 0 ≡ false) where
       within_fits 4 (cash_on (add_cents c payer (less_cents (cents m))) payee +ℤ pos m) (omega arith)
       (within_plus 3 1 (cash_on (add_cents c payer (less_cents (cents m))) payee) (pos m) between (within_pos m h))
 
-  pub paid_some : paid c payer payee m ≡ add_cents (add_cents c payer (less_cents (cents m))) payee (cents m)
-  unfolding paid
-  paid_some = rw some
-
-pub paid_none : (c : List ℤ) (payer payee m : ℕ) → m ≡ 0 → paid c payer payee m ≡ c
-unfolding paid
-paid_none c payer payee m e = rw e
-
 -- what is paid in is a change upwards, what is paid out one downwards
 pub payment_signed : (b : Bool) (m : ℕ) → ◌≡◌ {A = Cents} (record { 0 = cond b (pos m) (neg_ℤ (pos m)) }) (payment (way_of b) m)
 payment_signed true m = refl
@@ -53,13 +48,17 @@ payment_signed false m = refl
 
 -- ---- a pay-in or pay-out by its number
 module _ (k : Lookups) (c : List ℤ) (w : Way) (a m : ℕ) where
-  pub pay_refused : (n : ℕ) → n ≡ first_of (pay_conditions k c w a m) → (n ≡ 0 → ⊥)
+  refused_with : (n : ℕ) → n ≡ first_of (pay_conditions k c w a m) → (n ≡ 0 → ⊥)
       → (Refused n ≡ (pay_outcome k c w a m).answer) × (c ≡ (pay_outcome k c w a m).cash)
   unfolding pay_outcome
-  pay_refused zero e nonzero = absurd (nonzero refl)
-  pay_refused (suc n) e nonzero = rw (← e) (refl, refl)
+  refused_with zero e nonzero = absurd (nonzero refl)
+  refused_with (suc n) e nonzero = rw (← e) (refl, refl)
 
-  pub pay_done : (n : ℕ) → n ≡ first_of (pay_conditions k c w a m) → n ≡ 0
+  pub pay_refused : (y : Refusal) → number y ≡ first_of (pay_conditions k c w a m)
+      → (Refused (number y) ≡ (pay_outcome k c w a m).answer) × (c ≡ (pay_outcome k c w a m).cash)
+  pay_refused y e = refused_with (number y) e (number_ne0 y)
+
+  pub pay_done : 0 ≡ first_of (pay_conditions k c w a m)
       → (Accepted ≡ (pay_outcome k c w a m).answer) × (add_cents c a (payment w m) ≡ (pay_outcome k c w a m).cash)
   unfolding pay_outcome
-  pay_done n e clear = rw (← e, clear) (refl, refl)
+  pay_done e = rw (← e) (refl, refl)

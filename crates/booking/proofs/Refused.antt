@@ -12,7 +12,6 @@ use Rattle.rules.specs.Lookups.{Lookups}
 use Rattle.rules.specs.Booking.{Way, limit, out_of_range, payment, cash_beyond, pay_conditions}
 use Rattle.rules.proofs.Basics.{or_none, quiet}
 use Rattle.booking.specs.Refusals.{book_refusal}
-use Rattle.booking.specs.Moves.{operand_conditions}
 
 -- ---- by the tests
 pub book_open : (units cash beyond : Bool) → book_refusal units cash beyond ≡ 0 → (units ≡ false) × (cash ≡ false) × (beyond ≡ false)
@@ -24,10 +23,7 @@ book_open false false false e = (refl, refl, refl)
 in_range : (q : ℕ) → out_of_range q ≡ false → q ≤ limit
 in_range q e = ltb-false limit q (or_none (eqb q 0) (ltb limit q) e).1
 
--- ---- of a bring-in or take-out, and of a pay-in or pay-out
-pub operands_open : (k : Lookups) (a s q : ℕ) → first_of (operand_conditions k a s q) ≡ 0 → q ≤ limit
-operands_open k a s q e = in_range q (quiet (operand_conditions k a s q) refl e).1.0
-
+-- ---- of a pay-in or pay-out
 pub pay_open : (k : Lookups) (c : List ℤ) (w : Way) (a m : ℕ) → first_of (pay_conditions k c w a m) ≡ 0 → (m ≤ limit) × (cash_beyond c a (payment w m) ≡ false)
 pay_open k c w a m e =
     let none = quiet (pay_conditions k c w a m) refl e in

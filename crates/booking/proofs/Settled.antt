@@ -8,15 +8,18 @@ use lib.ListN.{length}
 use borrow.Author.Tests.{eq-eqb, ne_eqb}
 use Rattle.rules.specs.declared.Half.{Half}
 use Rattle.rules.specs.declared.Step.{Step}
-use Rattle.rules.specs.declared.Answer.{Answer}
-use Rattle.rules.specs.declared.Answer.TheVariants.{Booked, Refused}
+use Rattle.rules.specs.declared.answer.Answer.{Answer}
+use Rattle.rules.specs.declared.answer.Answer.TheVariants.{Booked, Refused}
 use Rattle.rules.specs.Tests.{Condition, first_of}
 use Rattle.rules.specs.Lookups.{Lookups}
-use Rattle.rules.specs.Chain.{chained, steps_of, chain_conditions}
+use Rattle.rules.specs.Chain.{chained, unchained, steps_of, chain_conditions}
 use Rattle.rules.specs.Booking.{booked, paid, units_short, units_beyond, cash_short, payment_beyond}
 use Rattle.rules.specs.Calls.{Halves, delivering, receiving, side_unknown, same_side, both_conditions, book_conditions}
 use Rattle.rules.proofs.Basics.{quiet, or_none}
-use Rattle.chain.specs.declared.steps.Found.{Found}
+use Rattle.std.specs.Prelude.{Result, Ok, Err}
+use Rattle.rules.specs.declared.refusal.Refusal.{Refusal}
+use Rattle.rules.specs.Numbers.{number}
+use Rattle.rules.proofs.Numbered.{number_ne0}
 use Rattle.chain.specs.StepList.{step_numbers, steps_in, noted}
 use Rattle.chain.specs.Steps.{FoundIn}
 use Rattle.chain.specs.Derivation.{chain_between, Finds, derived_into}
@@ -24,7 +27,7 @@ use Rattle.halves.specs.Halves.{Handed}
 use Rattle.chain.proofs.StepList.{steps_none, steps_counted}
 use Rattle.chain.proofs.Linking.{found_refused, found_chained}
 use Rattle.rules.proofs.Conditions.{first_before, first_after}
-use Rattle.chain.proofs.Deriving.{chain_fits, derives_misfit, derives_halves, derives_refused, derives_chained}
+use Rattle.chain.proofs.Deriving.{chain_fits, derives_misfit, derives_halves, derives_found}
 use Rattle.booking.specs.Settling.{settling_conditions, settle_outcome, settle_into, Settles}
 use Rattle.booking.proofs.Refused.{book_open}
 
@@ -73,37 +76,38 @@ module _ (k : Lookups) (p c : List ℤ) (h g : Half) (u s : Bool) where
           refused_with n l (e ∙ sym (ap first_of in_order_lem ∙ first)) some (derives_halves l k h g u s size n e some).list
 
       -- the halves are in order, and their chain is looked for
-      module _ (ok : first_of (both_conditions k h g u s) ≡ 0) (m : List ℕ) (r : Found) (found : Finds l m k h.security h.account g.account r) where
+      module _ (ok : first_of (both_conditions k h g u s) ≡ 0) (m : List ℕ) where
         then_later : first_of (settling_conditions k p c h g u s) ≡ first_of later
         then_later = ap first_of in_order_lem ∙ first_after (both_conditions k h g u s) later (quiet (both_conditions k h g u s) refl ok)
 
-        is_found : FoundIn l m (chain_between k h g) r
-        is_found = rw (chain_fits l k h.security h.account g.account size) at found
+        is_found : (r : Result ℕ Refusal) → Finds l m k h.security h.account g.account r → FoundIn l m (chain_between k h g) r
+        is_found r found = rw (chain_fits l k h.security h.account g.account size) at found
 
-        pub by_chain : (r.refusal ≡ 0 → ⊥) → Leaves (Refused r.refusal) p c m
-        by_chain some =
-            refused_with r.refusal m (sym (then_later ∙ rw (found_refused is_found some).0)) some (derives_refused l k h g u s size ok m r found some).list
+        list : (r : Result ℕ Refusal) → Finds l m k h.security h.account g.account r → m ≡ noted (derived_into l k h g u s).steps l
+        list r found = (derives_found l k h g u s size ok m r found).list
 
-        -- there is a chain: its booking decides
-        module _ (clear : r.refusal ≡ 0) (n : ℕ) (number : n ≡ first_of (book_conditions k p c h g (steps_in m r.count))) where
-          chain_is : chain_between k h g ≡ chained (steps_in m r.count)
-          chain_is = found_chained is_found clear
+        pub by_chain : (e : Refusal) → Finds l m k h.security h.account g.account (Err e) → Leaves (Refused (number e)) p c m
+        by_chain e found =
+            let none : chain_between k h g ≡ unchained (number e) = (found_refused (is_found (Err e) found)).0 in
+            refused_with (number e) m (sym (then_later ∙ rw none)) (number_ne0 e) (list (Err e) found)
 
-          whole : n ≡ first_of (settling_conditions k p c h g u s)
-          whole = number ∙ sym (then_later ∙ rw chain_is)
+        -- there is a chain of n steps: its booking decides
+        module _ (n : ℕ) (found : Finds l m k h.security h.account g.account (Ok n)) (i : ℕ) (is : i ≡ first_of (book_conditions k p c h g (steps_in m n))) where
+          chain_is : chain_between k h g ≡ chained (steps_in m n)
+          chain_is = found_chained (is_found (Ok n) found)
 
-          list : m ≡ noted (derived_into l k h g u s).steps l
-          list = (derives_chained l k h g u s size ok m r found clear).list
+          whole : i ≡ first_of (settling_conditions k p c h g u s)
+          whole = is ∙ sym (then_later ∙ rw chain_is)
 
-          pub by_booking : (n ≡ 0 → ⊥) → Leaves (Refused n) p c m
-          by_booking some = refused_with n m whole some list
+          pub by_booking : (i ≡ 0 → ⊥) → Leaves (Refused i) p c m
+          by_booking some = refused_with i m whole some (list (Ok n) found)
 
-          pub done : n ≡ 0 → (p' c' : List ℤ) → p' ≡ booked (steps_in m r.count) h.security h.quantity p
-              → c' ≡ paid c g.account h.account h.amount → Leaves (Booked r.count) p' c' m
+          pub done : i ≡ 0 → (p' c' : List ℤ) → p' ≡ booked (steps_in m n) h.security h.quantity p
+              → c' ≡ paid c g.account h.account h.amount → Leaves (Booked n) p' c' m
           unfolding settle_outcome
           done none p' c' e f =
               rw (settle_fits l k p c h g u s size, sym whole ∙ none, chain_is)
-              (record { answer = ap Booked (steps_counted m r.count); steps = refl; positions = e; cash = f; list = list })
+              (record { answer = ap Booked (steps_counted m n); steps = refl; positions = e; cash = f; list = list (Ok n) found })
 
 -- ---- two halves as a function is handed them
 pub handed_settles : {hs : Halves} {h g : Half} {unknown same : Bool} → Handed hs h g unknown same

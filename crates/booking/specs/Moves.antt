@@ -1,25 +1,23 @@
 -- Bring in and take out over look-ups: what they answer, and the positions that they leave. Assumes nothing.
-use Rattle.std.specs.Prelude.{ℕ, zero, suc, Bool, true, false, not, ◌||◌, List, [], ◌∷◌, ℤ}
+use Rattle.std.specs.Prelude.{ℕ, zero, suc, Bool, true, false, not, ◌||◌, List, [], ◌∷◌, ℤ, Some, None, Option as Answered}
 use Rattle.std.proofs.Math.Option.{Option, none, some}
 use Rattle.rules.specs.declared.Step.{Step}
-use Rattle.rules.specs.declared.Answer.{Answer}
-use Rattle.rules.specs.declared.Answer.TheVariants.{Accepted, Refused}
+use Rattle.rules.specs.declared.answer.Answer.{Answer}
+use Rattle.rules.specs.declared.answer.Answer.TheVariants.{Accepted, Refused}
 use Rattle.rules.specs.Tests.{Condition, ◌when◌, first_of}
 use Rattle.rules.specs.Lookups.{Lookups}
 use Rattle.rules.specs.Chain.{steps_of}
 use Rattle.rules.specs.Booking.{Way, incoming, outgoing, out_of_range, step_short, step_beyond, move_chain, move_conditions, booked}
-use Rattle.booking.specs.declared.moves.Contra.{Contra}
-use Rattle.booking.specs.declared.moves.Contra.TheVariants.{At, Missing}
 
 -- into the desk's books, or out of them
 abbrev pub way_of : Bool → Way
 way_of true = incoming
 way_of false = outgoing
 
--- the account on the other side, if there is one
-unfoldable pub contra_found : Option ℕ → Contra
-contra_found none = Missing
-contra_found (some a) = At a
+-- the account on the other side, if there is one, as the code answers it
+unfoldable pub contra_found : Option ℕ → Answered ℕ
+contra_found none = None
+contra_found (some a) = Some a
 
 -- 6, 7 and 10 of a bring-in or take-out: what its operands give by themselves
 abbrev pub operand_conditions : Lookups → ℕ → ℕ → ℕ → List Condition

@@ -1,7 +1,7 @@
 -- Pay in and pay out over look-ups: what they answer, and the cash that they leave. Assumes nothing.
 use Rattle.std.specs.Prelude.{ℕ, zero, suc, List, ℤ}
-use Rattle.rules.specs.declared.Answer.{Answer}
-use Rattle.rules.specs.declared.Answer.TheVariants.{Accepted, Refused}
+use Rattle.rules.specs.declared.answer.Answer.{Answer}
+use Rattle.rules.specs.declared.answer.Answer.TheVariants.{Accepted, Refused}
 use Rattle.rules.specs.Tests.{first_of}
 use Rattle.rules.specs.Lookups.{Lookups}
 use Rattle.rules.specs.Booking.{Way, payment, pay_conditions, add_cents}

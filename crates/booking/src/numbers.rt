@@ -1,5 +1,5 @@
 // A change of one signed number of a list.
-ghost use Rattle.std.specs.Prelude.{◌≡◌, cond, ◌≤◌, ◌<◌, pos, neg_ℤ, ◌+ℤ◌, length, get_or, set};
+ghost use Rattle.std.specs.Prelude.{◌≡◌, true, cond, ◌≤◌, ◌<◌, pos, neg_ℤ, ◌+ℤ◌, length, get_or, set};
 ghost use Rattle.std.specs.Int.{w64};
 ghost use Rattle.std.proofs.Common.{SFits};
 ghost use Rattle.rules.specs.Booking.{limit};
@@ -15,20 +15,12 @@ pub(crate) fn signed(n: u64, rises: bool) -> i64
     0 - (n as i64)
 }
 
-// z more at k, which is within the list.
-pub(crate) fn add_within(list: &mut [i64], k: usize, z: i64)
-    requires { (k < length list.old) × SFits w64 (get_or list.old k (pos 0) +ℤ z) }
+// z more at k; behind the end nothing changes. Where k is known to be within the list it is not tested.
+pub(crate) fn add_at<const WITHIN: bool>(list: &mut [i64], k: usize, z: i64)
+    requires { (WITHIN ≡ true → k < length list.old) × SFits w64 (get_or list.old k (pos 0) +ℤ z) }
     ensures { list.new ≡ set list.old k (get_or list.old k (pos 0) +ℤ z) }
 {
-    list[k] = list[k] + z;
-}
-
-// z more at k; behind the end nothing changes.
-pub(crate) fn add_at(list: &mut [i64], k: usize, z: i64)
-    requires { SFits w64 (get_or list.old k (pos 0) +ℤ z) }
-    ensures { list.new ≡ set list.old k (get_or list.old k (pos 0) +ℤ z) }
-{
-    if k < list.len() {
-        add_within(list, k, z);
+    if WITHIN || k < list.len() {
+        list[k] = list[k] + z;
     }
 }

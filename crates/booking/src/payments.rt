@@ -1,6 +1,7 @@
 // Pay in and pay out: they change a participant account's cash.
 ghost use Rattle.std.specs.Prelude.{◌≡◌};
 ghost use Rattle.rules.specs.Tests.{first_of};
+ghost use Rattle.rules.specs.Numbers.{refused_by, accepted_by};
 ghost use Rattle.rules.specs.Booking.{payment, pay_short, cash_beyond, pay_conditions};
 ghost use Rattle.index.specs.Asked.{asked};
 ghost use Rattle.booking.specs.Moves.{way_of};
@@ -12,7 +13,7 @@ use crate::numbers::signed;
 use holdings::cash::{cash_short, payout_beyond, receipt_beyond};
 use index::lookups::{is_account, is_kind};
 use index::places::INDEX;
-use rules::{Answer, Cents, PARTICIPANT};
+use rules::{Cents, PARTICIPANT, Refusal};
 
 // 21: what is paid out must be there.
 fn pay_short(cash: &[i64], incoming: bool, account: u16, amount: u64) -> bool
@@ -35,25 +36,31 @@ fn pay_beyond(cash: &[i64], incoming: bool, account: u16, amount: u64) -> bool
 }
 
 // 6 to 22, judged on the cash as it is lent.
-fn pay_refusal(index: &[u16; INDEX], cash: &[i64], incoming: bool, account: u16, amount: u64) -> u8
-    ensures { result ≡ first_of (pay_conditions (asked index.now) cash.now (way_of incoming) account amount) }
+fn pay_refusal(
+    index: &[u16; INDEX],
+    cash: &[i64],
+    incoming: bool,
+    account: u16,
+    amount: u64,
+) -> Result<(), Refusal>
+    ensures { refused_by result ≡ first_of (pay_conditions (asked index.now) cash.now (way_of incoming) account amount) }
 {
     if !is_account(index, account) {
-        return 6;
+        return Err(Refusal::NoRow);
     }
     if out_of_range(amount) {
-        return 7;
+        return Err(Refusal::OutOfRange);
     }
     if !is_kind(index, account, PARTICIPANT) {
-        return 10;
+        return Err(Refusal::WrongAccount);
     }
     if pay_short(cash, incoming, account, amount) {
-        return 21;
+        return Err(Refusal::CashShort);
     }
     if pay_beyond(cash, incoming, account, amount) {
-        return 22;
+        return Err(Refusal::Beyond);
     }
-    0
+    Ok(())
 }
 
 // A pay-in or pay-out: judged, then booked.
@@ -63,14 +70,11 @@ pub fn move_cash(
     incoming: bool,
     account: u16,
     amount: u64,
-) -> Answer
-    ensures answer { result ≡ (pay_outcome (asked index.now) cash.old (way_of incoming) account amount).answer }
+) -> Result<(), Refusal>
+    ensures answer { accepted_by result ≡ (pay_outcome (asked index.now) cash.old (way_of incoming) account amount).answer }
     ensures cash { cash.new ≡ (pay_outcome (asked index.now) cash.old (way_of incoming) account amount).cash }
 {
-    let refusal = pay_refusal(index, cash, incoming, account, amount);
-    if refusal != 0 {
-        return Answer::Refused(refusal);
-    }
+    pay_refusal(index, cash, incoming, account, amount)?;
     add_cents(cash, account, Cents(signed(amount, incoming)));
-    Answer::Accepted
+    Ok(())
 }

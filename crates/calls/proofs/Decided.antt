@@ -9,11 +9,8 @@ use lib.IntN.{ℤ}
 use lib.Dec.{eqb, ltb}
 use lib.ListN.{length, take, drop, replicate, length-replicate}
 use lib.Seq.{take-append_seam}
-use Rattle.rules.specs.declared.Answer.{Answer}
-use Rattle.rules.specs.declared.Answer.TheVariants.{Refused}
-use Rattle.rules.specs.declared.SecurityTotal.{SecurityTotal}
-use Rattle.rules.specs.declared.SecurityTotal.TheVariants.{NoUnits}
-use Rattle.rules.specs.declared.CashTotal.TheVariants.{NoCents}
+use Rattle.rules.specs.declared.answer.Answer.{Answer}
+use Rattle.rules.specs.declared.answer.Answer.TheVariants.{Refused}
 use Rattle.rules.specs.declared.Units.{Units}
 use Rattle.rules.specs.declared.Directory.{Directory}
 use Rattle.rules.specs.declared.Step.{Step}
@@ -22,12 +19,13 @@ use Rattle.rules.specs.Directory.{rows_of, rows_on}
 use Rattle.rules.specs.Entries.{sound}
 use Rattle.rules.specs.Lookups.{Lookups, ask}
 use Rattle.rules.specs.Chain.{step, step_limit}
-use Rattle.rules.specs.Booking.{Way, position_count, cash_count, participant_sum, security_total_by, security_total_conditions}
+use Rattle.rules.specs.Booking.{SecurityTotal, NoUnits, NoCents, Way, position_count, cash_count, participant_sum, security_total_by, security_total_conditions}
 use Rattle.rules.specs.Calls.{Halves, delivering, receiving, side_unknown, same_side, Store, Call, Outcome, move, pay, settle, derive, misfit, core, count_of, written, desk_security_total, desk_cash_total}
 use Rattle.rules.proofs.Basics.{eqb-true, eqb_false}
 use Rattle.index.specs.Asked.{asked, asked_on}
 use Rattle.index.proofs.Answers.{answers}
-use Rattle.refusals.specs.Kept.{Kept, Keeps}
+use Rattle.refusals.specs.declared.kept.Kept.{Kept}
+use Rattle.refusals.specs.Kept.{Keeps}
 use Rattle.chain.specs.StepList.{step_numbers, steps_in}
 use Rattle.chain.specs.Derivation.{derived, derived_into, Derives}
 use Rattle.chain.proofs.StepList.{steps_counted}
@@ -38,11 +36,12 @@ use Rattle.booking.specs.Settling.{settle_outcome, settle_into, Settles}
 use Rattle.booking.proofs.Calls.{moved_on, core_moves, paid_on, core_pays, settled_on, core_settles}
 use Rattle.booking.proofs.Settled.{settle_fits}
 use Rattle.rules.specs.Outcomes.{holding, movement_on, payment_on, settlement_on, derivation_on, blanks, by_value, reply_of}
-use Rattle.calls.specs.Early.{early, Admits}
+use Rattle.calls.specs.Early.{early}
+use Rattle.calls.proofs.Admitted.{Admits}
 use Rattle.calls.proofs.Before.{first_early, first_later, early_refused, early_passed}
 use Rattle.calls.proofs.Few.{derives, settles, core_few}
 use Rattle.holdings.specs.Sums.{security_total, cash_total}
-use Rattle.calls.specs.Replies.{refusal}
+use Rattle.calls.specs.Replies.{refused}
 
 abbrev answer_of : Outcome → Answer
 answer_of o = o.answer
@@ -135,7 +134,7 @@ unfolding desk_cash_total cash_total
 cash_passed c e = rw (eqb-true (length c) cash_count e)
 
 -- ---- derivation and settlement with their steps by value
-refusal_replied : (o : Outcome) (n : ℕ) → o.answer ≡ Refused n → refusal n ≡ reply_of o
+pub refusal_replied : (o : Outcome) (n : ℕ) → o.answer ≡ Refused n → refused n ≡ reply_of o
 refusal_replied o n e = rw e
 
 -- the K steps that the list of numbers m holds
@@ -170,7 +169,7 @@ module _ (d : Directory) (lent : ℕ) (hs : Halves) (day n : ℕ) (k : Kept) (e 
   unfolding misfit
   derive_early = e.number ∙ ap (λ (i : ℕ). early (ltb i step_limit) d) (sym (length-replicate lent (step 0 0 0)))
 
-  pub derivation_refused : n ≢ 0 → refusal n ≡ reply_of (derivation_on d (blanks lent) hs day)
+  pub derivation_refused : n ≢ 0 → refused n ≡ reply_of (derivation_on d (blanks lent) hs day)
   derivation_refused ne = refusal_replied (derivation_on d (blanks lent) hs day) n (ap answer_of (early_refused called handed n derive_early ne))
 
   module _ (z : n ≡ 0) (r : Answer) (m : List ℕ) (o : Derives blank_numbers m (asked_on k.numbers day) (delivering hs) (receiving hs) (side_unknown hs) (same_side hs) r) where
@@ -184,6 +183,9 @@ module _ (d : Directory) (lent : ℕ) (hs : Halves) (day n : ℕ) (k : Kept) (e 
 
     pub derivation_few : count_of r ≤ step_limit
     derivation_few = core_few handed hs day derives (blanks lent) r answered
+
+    pub derivation_answered : (derivation_on d (blanks lent) hs day).answer ≡ r
+    derivation_answered = sym (o.answer ∙ ap answer_of (the_core ∙ sym (early_passed called handed n derive_early z)))
 
     pub derivation_passed : replied r m ≡ reply_of (derivation_on d (blanks lent) hs day)
     derivation_passed =
@@ -206,7 +208,7 @@ module _ (d : Directory) (p c : List ℤ) (lent : ℕ) (hs : Halves) (day n : �
   abbrev Settled : Reply → List ℤ → List ℤ → Outcome → Type 0
   Settled r left cash o = (r ≡ reply_of o) × (left ≡ o.store.positions) × (cash ≡ o.store.cash)
 
-  pub settlement_refused : n ≢ 0 → Settled (refusal n) p c (settlement_on d p c (blanks lent) hs day)
+  pub settlement_refused : n ≢ 0 → Settled (refused n) p c (settlement_on d p c (blanks lent) hs day)
   settlement_refused ne =
       let o = early_refused settled (holding d p c) n settle_early ne in
       (refusal_replied (settlement_on d p c (blanks lent) hs day) n (ap answer_of o), sym (ap positions_of o), sym (ap cash_of o))
@@ -223,6 +225,9 @@ module _ (d : Directory) (p c : List ℤ) (lent : ℕ) (hs : Halves) (day n : �
 
     pub settlement_few : count_of r ≤ step_limit
     settlement_few = core_few (holding d p c) hs day settles (blanks lent) r booked
+
+    pub settlement_answered : (settlement_on d p c (blanks lent) hs day).answer ≡ r
+    settlement_answered = sym (o.answer ∙ ap answer_of (the_booking ∙ sym (early_passed settled (holding d p c) n settle_early z)))
 
     pub settlement_passed : Settled (replied r m) left cash (settlement_on d p c (blanks lent) hs day)
     settlement_passed =

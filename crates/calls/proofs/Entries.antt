@@ -4,19 +4,36 @@ use mathlib.Core.Path.{◌≡◌, refl, sym, ap, ◌∙◌}
 use mathlib.Core.Logic.{◌≢◌}
 use mathlib.Core.Bool.{false}
 use mathlib.Core.List.{[]}
-use Rattle.rules.specs.declared.Answer.TheVariants.{Accepted, Refused}
+use Rattle.rules.specs.declared.answer.Answer.TheVariants.{Accepted, Refused}
 use Rattle.rules.specs.declared.Directory.{Directory}
 use Rattle.rules.specs.declared.Entered.{Entered}
 use Rattle.rules.specs.Tests.{first_of}
 use Rattle.rules.specs.Directory.{rows_of}
-use Rattle.rules.specs.Entries.{Row, row_conditions, add_row}
+use Rattle.rules.specs.Entries.{Row, csd_row, security_row, account_row, pair_row, link_row, row_conditions, add_row}
+use Rattle.calls.specs.Rooms.{HasRoom}
+use Rattle.rules.specs.declared.answer.Answer.{Answer}
 use Rattle.rules.specs.Calls.{Store, Outcome, enter, outcome, misfit, core}
 use Rattle.rules.proofs.Tables.{Room, room}
-use Rattle.refusals.specs.Kept.{Kept, refusal_in}
+use Rattle.refusals.specs.declared.kept.Kept.{Kept}
+use Rattle.refusals.specs.Kept.{refusal_in}
 use Rattle.refusals.proofs.Refusing.{refusal_is}
 use Rattle.rules.specs.Outcomes.{holding, entered_on}
-use Rattle.calls.specs.Early.{Admits}
+use Rattle.calls.proofs.Admitted.{Admits}
 use Rattle.calls.proofs.Before.{early_refused, early_passed}
+
+abbrev pub answer_of : Entered → Answer
+answer_of r = r.answer
+
+abbrev pub directory_of : Entered → Directory
+directory_of r = r.directory
+
+-- what the room of the rules is for the row's table
+pub has_room : (x : Row) (d : Directory) → Room x d → HasRoom x d
+has_room (csd_row x) d r = r
+has_room (security_row x) d r = r
+has_room (account_row x) d r = r
+has_room (pair_row x) d r = r
+has_room (link_row x) d r = r
 
 module _ (d : Directory) (x : Row) where
   abbrev said : Outcome → Entered

@@ -2,15 +2,14 @@
 use Prim.Native.Nat.{ℕ, zero, suc, ◌≤◌}
 use mathlib.Core.Path.{◌≡◌, refl, sym, ap, ◌∙◌}
 use mathlib.Core.List.{List, [], ◌∷◌, ◌++◌, append_assoc}
-use lib.ListN.{length, get_or, set, take, drop, length-set, length-append}
-use lib.Seq.{take-suc, drop-cons, set-append_seam}
+use lib.ListN.{length, get_or, set, drop, length-set, length-append}
+use lib.Seq.{drop-cons, set-append_seam}
 use native.Mathlib.Omega.{arith}
 use Rattle.rules.specs.declared.Step.{Step}
-use Rattle.rules.specs.declared.Steps.{Steps}
 use Rattle.rules.specs.Chain.{step, step_limit}
 use Rattle.rules.specs.Calls.{written}
 use Rattle.chain.specs.StepList.{step_at, steps_in}
-use Rattle.rules.specs.Outcomes.{blanks, by_value, step_rows}
+use Rattle.rules.specs.Outcomes.{blanks, by_value}
 
 -- the list with the first k steps at its start
 abbrev pub stored : (ℕ → Step) → ℕ → List Step → List Step
@@ -43,18 +42,6 @@ module _ (f : ℕ → Step) where
 
   pub stored_listed : (k : ℕ) (ys : List Step) → k ≤ length ys → stored f k ys ≡ written (listed f k) ys
   stored_listed k ys l = rw length_listed (stored_first k ys l)
-
--- ---- steps by value into a lent list
-abbrev pub step_in : Steps → ℕ → Step
-step_in x i = get_or x.rows i (step 0 0 0)
-
-rows_listed : (x : Steps) (k : ℕ) → k ≤ length x.rows → listed (step_in x) k ≡ take k x.rows
-rows_listed x zero l = refl
-rows_listed x (suc k) l = rw (rows_listed x k (omega arith), take-suc x.rows k (step 0 0 0) (omega arith))
-
-pub stored_written : (x : Steps) (ys : List Step) → length x.rows ≡ step_limit → x.count ≤ step_limit → x.count ≤ length ys
-    → stored (step_in x) x.count ys ≡ written (step_rows x) ys
-stored_written x ys e r l = rw (← rows_listed x x.count (omega arith)) (stored_listed (step_in x) x.count ys l)
 
 -- ---- steps of a list of numbers onto blank rows
 numbers_listed : (l : List ℕ) (k : ℕ) → listed (step_at l) k ≡ steps_in l k

@@ -1,11 +1,8 @@
 // The empty directory.
-ghost use Rattle.std.specs.Prelude.{◌≡◌};
+ghost use Rattle.std.specs.Prelude.{◌≡◌, replicate};
 ghost use Rattle.rules.specs.Entries.{empty_directory};
 
-use rules::{
-    ACCOUNTS, Account, AccountTable, BIC, CSDS, Csd, CsdTable, Directory, ISIN, LINKS, Link,
-    LinkTable, PAIRS, Pair, PairTable, SECURITIES, Security, SecurityTable,
-};
+use rules::{Account, BIC, Csd, Directory, ISIN, Link, Pair, Security, Table};
 
 // What stands in a table behind its count.
 const BLANK_CSD: Csd = Csd {
@@ -36,30 +33,25 @@ const BLANK_LINK: Link = Link {
     last: 0,
 };
 
+// A table with no row in use.
+fn unused<T: Copy, const N: usize>(row: T) -> Table<T, N>
+    ensures { result ≡ record { count = 0; rows = replicate N row } }
+{
+    Table {
+        count: 0,
+        rows: [row; N],
+    }
+}
+
 // "An empty store has no row"
 pub fn empty() -> Directory
     ensures { result ≡ empty_directory }
 {
     Directory {
-        csds: CsdTable {
-            count: 0,
-            rows: [BLANK_CSD; CSDS],
-        },
-        securities: SecurityTable {
-            count: 0,
-            rows: [BLANK_SECURITY; SECURITIES],
-        },
-        accounts: AccountTable {
-            count: 0,
-            rows: [BLANK_ACCOUNT; ACCOUNTS],
-        },
-        pairs: PairTable {
-            count: 0,
-            rows: [BLANK_PAIR; PAIRS],
-        },
-        links: LinkTable {
-            count: 0,
-            rows: [BLANK_LINK; LINKS],
-        },
+        csds: unused(BLANK_CSD),
+        securities: unused(BLANK_SECURITY),
+        accounts: unused(BLANK_ACCOUNT),
+        pairs: unused(BLANK_PAIR),
+        links: unused(BLANK_LINK),
     }
 }

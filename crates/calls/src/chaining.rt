@@ -1,20 +1,21 @@
 // Derivation and settlement, with their steps by value.
 ghost use Rattle.std.specs.Prelude.{◌≡◌, ◌≤◌};
+ghost use Rattle.rules.specs.Numbers.{number};
 ghost use Rattle.rules.specs.Chain.{step_limit};
 ghost use Rattle.rules.specs.Outcomes.{settlement_on, derivation_on, blanks, reply_of, by_value};
-ghost use Rattle.rules.specs.Calls.{Halves, ordered, sided, count_of};
+ghost use Rattle.rules.specs.Calls.{Halves, ordered, sided};
 ghost use Rattle.chain.specs.StepList.{steps_in};
-ghost use Rattle.halves.specs.Halves.{Handed, Halved};
-ghost use Rattle.calls.specs.Replies.{refusal};
+ghost use Rattle.halves.specs.Halves.{in_order};
+ghost use Rattle.calls.specs.Replies.{refused, reply_by};
 
-use crate::early_refusal;
-use booking::settling;
-use chain::derivation;
-use chain::step_list::{STEP_NUMBERS, count_of, step_at};
-use halves::in_order;
-use identifiers::names::NAMES;
-use index::places::INDEX;
-use rules::{ACCOUNTS, Answer, Directory, Half, POSITIONS, Reply, STEPS, SidedHalf, Step, Steps};
+use crate::admit;
+use booking::settling::settle;
+use chain::derivation::derive;
+use chain::step_list::{STEP_NUMBERS, step_at};
+use halves::{InOrder, in_order};
+use rules::{
+    ACCOUNTS, Answer, Directory, Half, POSITIONS, Refusal, Reply, STEPS, SidedHalf, Step, Steps,
+};
 
 // ---- replies
 
@@ -29,14 +30,24 @@ fn blank_rows() -> [Step; STEPS]
 }
 
 // A refusal has no step.
-fn refused(number: u8) -> Reply
-    ensures { result ≡ refusal number }
+fn refused(refusal: Refusal) -> Reply
+    ensures { result ≡ refused (number refusal) }
 {
     let rows = blank_rows();
     let steps = Steps { count: 0, rows };
     Reply {
-        answer: Answer::Refused(number),
+        answer: Answer::Refused(u8::from(refusal)),
         steps,
+    }
+}
+
+// The reply, or that of the refusal.
+fn replied(outcome: Result<Reply, Refusal>) -> Reply
+    ensures { result ≡ reply_by outcome }
+{
+    match outcome {
+        Ok(reply) => reply,
+        Err(refusal) => refused(refusal),
     }
 }
 
@@ -46,56 +57,26 @@ fn laid_out(numbers: &[u16], n: usize) -> Steps
     ensures { result ≡ by_value (steps_in numbers.now n) }
 {
     let mut rows = blank_rows();
-    let mut i: usize = 0;
-    while i < n {
-        let s = step_at(numbers, i);
-        rows[i] = s;
-        i += 1;
+    for i in 0..n {
+        rows[i] = step_at(numbers, i);
     }
     Steps { count: n, rows }
 }
 
-// The answer with its K steps, which the list of numbers holds.
-fn replied(answer: Answer, numbers: &[u16]) -> Reply
-    requires { count_of answer ≤ step_limit }
-    ensures { result ≡ record { answer = answer; steps = by_value (steps_in numbers.now (count_of answer)) } }
-{
-    let steps = laid_out(numbers, count_of(answer));
-    Reply { answer, steps }
-}
-
 // ---- the calls
 
-// The chain of two halves on a day, for a caller that is lent `lent` steps. What is asked of the sides comes last.
-fn derived(
-    directory: Directory,
-    lent: usize,
-    delivering: Half,
-    receiving: Half,
-    unknown: bool,
-    same: bool,
-    day: u16,
-) -> Reply
-    requires { Halved delivering receiving unknown same }
-    ensures { (hs : Halves) → Handed hs delivering receiving unknown same → result ≡ reply_of (derivation_on directory (blanks lent) hs day) }
+// The chain of two halves on a day, for a caller that is lent `lent` steps.
+fn derived(directory: Directory, lent: usize, halves: InOrder, day: u16) -> Result<Reply, Refusal>
+    requires { (hs : Halves) × (halves ≡ in_order hs) }
+    ensures { (hs : Halves) → halves ≡ in_order hs → reply_by result ≡ reply_of (derivation_on directory (blanks lent) hs day) }
 {
-    let mut index: [u16; INDEX] = [0; INDEX];
-    let mut names: [u8; NAMES] = [0; NAMES];
-    let number = early_refusal(lent < STEPS, directory, &mut index, &mut names);
-    if number != 0 {
-        return refused(number);
-    }
-    let mut numbers: [u16; STEP_NUMBERS] = [0; STEP_NUMBERS];
-    let answer = derivation::derive(
-        &index,
-        &mut numbers,
-        delivering,
-        receiving,
-        unknown,
-        same,
-        day,
-    );
-    replied(answer, &numbers)
+    let kept = admit(lent < STEPS, directory)?;
+    let mut numbers = [0u16; STEP_NUMBERS];
+    let count = derive(&kept.numbers, &mut numbers, halves, day)?;
+    Ok(Reply {
+        answer: Answer::Chained(count),
+        steps: laid_out(&numbers, count),
+    })
 }
 
 // Two halves booked, likewise.
@@ -104,38 +85,25 @@ fn settled(
     positions: &mut [i64],
     cash: &mut [i64],
     lent: usize,
-    delivering: Half,
-    receiving: Half,
-    unknown: bool,
-    same: bool,
+    halves: InOrder,
     day: u16,
-) -> Reply
-    requires { Halved delivering receiving unknown same }
-    ensures { (hs : Halves) → Handed hs delivering receiving unknown same
-        → (result ≡ reply_of (settlement_on directory positions.old cash.old (blanks lent) hs day))
-        × (positions.new ≡ (settlement_on directory positions.old cash.old (blanks lent) hs day).store.positions)
-        × (cash.new ≡ (settlement_on directory positions.old cash.old (blanks lent) hs day).store.cash) }
+) -> Result<Reply, Refusal>
+    requires { (hs : Halves) × (halves ≡ in_order hs) }
+    ensures reply { (hs : Halves) → halves ≡ in_order hs
+        → reply_by result ≡ reply_of (settlement_on directory positions.old cash.old (blanks lent) hs day) }
+    ensures positions { (hs : Halves) → halves ≡ in_order hs
+        → positions.new ≡ (settlement_on directory positions.old cash.old (blanks lent) hs day).store.positions }
+    ensures cash { (hs : Halves) → halves ≡ in_order hs
+        → cash.new ≡ (settlement_on directory positions.old cash.old (blanks lent) hs day).store.cash }
 {
-    let mut index: [u16; INDEX] = [0; INDEX];
-    let mut names: [u8; NAMES] = [0; NAMES];
     let misfit = (positions.len() != POSITIONS) | ((cash.len() != ACCOUNTS) | (lent < STEPS));
-    let number = early_refusal(misfit, directory, &mut index, &mut names);
-    if number != 0 {
-        return refused(number);
-    }
-    let mut numbers: [u16; STEP_NUMBERS] = [0; STEP_NUMBERS];
-    let answer = settling::settle(
-        &index,
-        positions,
-        cash,
-        &mut numbers,
-        delivering,
-        receiving,
-        unknown,
-        same,
-        day,
-    );
-    replied(answer, &numbers)
+    let kept = admit(misfit, directory)?;
+    let mut numbers = [0u16; STEP_NUMBERS];
+    let count = settle(&kept.numbers, positions, cash, &mut numbers, halves, day)?;
+    Ok(Reply {
+        answer: Answer::Booked(count),
+        steps: laid_out(&numbers, count),
+    })
 }
 
 // The chain of two halves on a day, delivering first, for a caller that is lent `lent` steps.
@@ -148,7 +116,8 @@ pub fn derive_reply(
 ) -> Reply
     ensures { result ≡ reply_of (derivation_on directory (blanks lent) (ordered delivering receiving) day) }
 {
-    derived(directory, lent, delivering, receiving, false, false, day)
+    let halves = InOrder::delivering_first(delivering, receiving);
+    replied(derived(directory, lent, halves, day))
 }
 
 // The same of two halves with their sides, in either order.
@@ -162,15 +131,7 @@ pub fn derive_sided_reply(
     ensures { result ≡ reply_of (derivation_on directory (blanks lent) (sided first second) day) }
 {
     let pair = in_order(first, second);
-    derived(
-        directory,
-        lent,
-        pair.delivering,
-        pair.receiving,
-        pair.unknown,
-        pair.same,
-        day,
-    )
+    replied(derived(directory, lent, pair, day))
 }
 
 // Two halves booked by the links of a day, delivering first, for a caller that is lent `lent` steps.
@@ -189,9 +150,8 @@ pub fn settle_reply(
         × (cash.new
         ≡ (settlement_on directory positions.old cash.old (blanks lent) (ordered delivering receiving) day).store.cash) }
 {
-    settled(
-        directory, positions, cash, lent, delivering, receiving, false, false, day,
-    )
+    let halves = InOrder::delivering_first(delivering, receiving);
+    replied(settled(directory, positions, cash, lent, halves, day))
 }
 
 // The same of two halves with their sides, in either order.
@@ -209,17 +169,7 @@ pub fn settle_sided_reply(
         × (cash.new ≡ (settlement_on directory positions.old cash.old (blanks lent) (sided first second) day).store.cash) }
 {
     let halves = in_order(first, second);
-    settled(
-        directory,
-        positions,
-        cash,
-        lent,
-        halves.delivering,
-        halves.receiving,
-        halves.unknown,
-        halves.same,
-        day,
-    )
+    replied(settled(directory, positions, cash, lent, halves, day))
 }
 
 // The chain of two halves on a day, delivering first, with its steps by value: what a lent list of 16 blank steps would hold.

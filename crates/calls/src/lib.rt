@@ -8,9 +8,10 @@ mod entering; // entering.rt: the five entries, each adding its row to its table
 mod moving; // moving.rt: positions and cash
 mod chaining; // chaining.rt: derivation and settlement, with their steps by value
 
-ghost use Rattle.std.specs.Prelude.{◌≡◌};
-ghost use Rattle.reading.specs.Read.{kept, nothing_kept};
-ghost use Rattle.calls.specs.Early.{Admits};
+ghost use Rattle.std.specs.Prelude.{◌≡◌, IfOk};
+ghost use Rattle.rules.specs.Numbers.{refused_by};
+ghost use Rattle.refusals.specs.Kept.{Keeps};
+ghost use Rattle.calls.specs.Early.{early};
 
 pub use blank::empty;
 pub use chaining::{
@@ -18,27 +19,22 @@ pub use chaining::{
     settle_sided_reply,
 };
 pub use entering::{enter_account, enter_csd, enter_link, enter_pair, enter_security};
-use identifiers::names::NAMES;
-use index::places::INDEX;
 pub use moving::{bring_in, cash_total, pay_in, pay_out, security_total, take_out};
 use reading::read;
-use rules::Directory;
+use refusals::Kept;
+use rules::{Directory, Refusal};
 
-// 3 where a lent list does not fit, else 4 where the directory is not sound, else 0, and what is kept of the directory then stands in both lists.
-fn early_refusal(
-    misfit: bool,
-    directory: Directory,
-    index: &mut [u16; INDEX],
-    names: &mut [u8; NAMES],
-) -> u8
-    requires { kept index.old names.old ≡ nothing_kept }
-    ensures { Admits misfit directory result (kept index.new names.new) }
+// 3 where a lent list does not fit, else 4 where the directory is not sound; else what is kept of the directory.
+fn admit(misfit: bool, directory: Directory) -> Result<Kept, Refusal>
+    ensures number { refused_by result ≡ early misfit directory }
+    ensures keeps { IfOk result (λ kept. Keeps kept directory) }
 {
     if misfit {
-        return 3;
+        return Err(Refusal::LentList);
     }
-    if !read(directory, index, names) {
-        return 4;
+    let mut kept = Kept::nothing();
+    if !read(&directory, &mut kept) {
+        return Err(Refusal::Unsound);
     }
-    0
+    Ok(kept)
 }

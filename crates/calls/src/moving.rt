@@ -1,17 +1,16 @@
 // Positions and cash: bring in, take out, pay in, pay out, and the totals.
 ghost use Rattle.std.specs.Prelude.{◌≡◌};
-ghost use Rattle.rules.specs.Booking.{incoming, outgoing};
+ghost use Rattle.rules.specs.Numbers.{accepted_by};
+ghost use Rattle.rules.specs.Booking.{incoming, outgoing, units_found, cents_found};
 ghost use Rattle.rules.specs.Calls.{desk_security_total, desk_cash_total};
 ghost use Rattle.booking.specs.Moves.{way_of};
 ghost use Rattle.rules.specs.Outcomes.{movement_on, payment_on};
 
-use crate::early_refusal;
+use crate::admit;
 use booking::moves::move_securities;
 use booking::payments::move_cash;
 use holdings::totals;
-use identifiers::names::NAMES;
-use index::places::INDEX;
-use rules::{ACCOUNTS, Answer, CashTotal, Directory, POSITIONS, SecurityTotal};
+use rules::{ACCOUNTS, Answer, Cents, Directory, POSITIONS, Refusal, Units};
 
 // A bring-in or take-out, by the links of the day.
 fn movement(
@@ -22,23 +21,19 @@ fn movement(
     security: u8,
     quantity: u64,
     day: u16,
-) -> Answer
-    ensures { (result ≡ (movement_on directory positions.old (way_of incoming) account security quantity day).answer)
-        × (positions.new ≡ (movement_on directory positions.old (way_of incoming) account security quantity day).store.positions) }
+) -> Result<(), Refusal>
+    ensures answer { accepted_by result ≡ (movement_on directory positions.old (way_of incoming) account security quantity day).answer }
+    ensures positions { positions.new ≡ (movement_on directory positions.old (way_of incoming) account security quantity day).store.positions }
 {
-    let mut index: [u16; INDEX] = [0; INDEX];
-    let mut names: [u8; NAMES] = [0; NAMES];
-    let number = early_refusal(
-        positions.len() != POSITIONS,
-        directory,
-        &mut index,
-        &mut names,
-    );
-    if number != 0 {
-        return Answer::Refused(number);
-    }
+    let kept = admit(positions.len() != POSITIONS, directory)?;
     move_securities(
-        &index, positions, incoming, account, security, quantity, day,
+        &kept.numbers,
+        positions,
+        incoming,
+        account,
+        security,
+        quantity,
+        day,
     )
 }
 
@@ -54,7 +49,7 @@ pub fn bring_in(
     ensures { (result ≡ (movement_on directory positions.old incoming account security quantity day).answer)
         × (positions.new ≡ (movement_on directory positions.old incoming account security quantity day).store.positions) }
 {
-    movement(directory, positions, true, account, security, quantity, day)
+    Answer::from(movement(directory, positions, true, account, security, quantity, day))
 }
 
 // The reverse.
@@ -69,9 +64,9 @@ pub fn take_out(
     ensures { (result ≡ (movement_on directory positions.old outgoing account security quantity day).answer)
         × (positions.new ≡ (movement_on directory positions.old outgoing account security quantity day).store.positions) }
 {
-    movement(
+    Answer::from(movement(
         directory, positions, false, account, security, quantity, day,
-    )
+    ))
 }
 
 // A pay-in or pay-out.
@@ -81,17 +76,12 @@ fn payment(
     incoming: bool,
     account: u16,
     amount: u64,
-) -> Answer
-    ensures { (result ≡ (payment_on directory cash.old (way_of incoming) account amount).answer)
-        × (cash.new ≡ (payment_on directory cash.old (way_of incoming) account amount).store.cash) }
+) -> Result<(), Refusal>
+    ensures answer { accepted_by result ≡ (payment_on directory cash.old (way_of incoming) account amount).answer }
+    ensures cash { cash.new ≡ (payment_on directory cash.old (way_of incoming) account amount).store.cash }
 {
-    let mut index: [u16; INDEX] = [0; INDEX];
-    let mut names: [u8; NAMES] = [0; NAMES];
-    let number = early_refusal(cash.len() != ACCOUNTS, directory, &mut index, &mut names);
-    if number != 0 {
-        return Answer::Refused(number);
-    }
-    move_cash(&index, cash, incoming, account, amount)
+    let kept = admit(cash.len() != ACCOUNTS, directory)?;
+    move_cash(&kept.numbers, cash, incoming, account, amount)
 }
 
 // Adds to a participant account's cash.
@@ -99,7 +89,7 @@ pub fn pay_in(directory: Directory, cash: &mut [i64], account: u16, amount: u64)
     ensures { (result ≡ (payment_on directory cash.old incoming account amount).answer)
         × (cash.new ≡ (payment_on directory cash.old incoming account amount).store.cash) }
 {
-    payment(directory, cash, true, account, amount)
+    Answer::from(payment(directory, cash, true, account, amount))
 }
 
 // The reverse.
@@ -107,33 +97,27 @@ pub fn pay_out(directory: Directory, cash: &mut [i64], account: u16, amount: u64
     ensures { (result ≡ (payment_on directory cash.old outgoing account amount).answer)
         × (cash.new ≡ (payment_on directory cash.old outgoing account amount).store.cash) }
 {
-    payment(directory, cash, false, account, amount)
+    Answer::from(payment(directory, cash, false, account, amount))
 }
 
 // The sum of participant positions in a security.
-pub fn security_total(directory: Directory, positions: &[i64], security: u8) -> SecurityTotal
-    ensures { result ≡ desk_security_total directory positions.now security }
+pub fn security_total(
+    directory: Directory,
+    positions: &[i64],
+    security: u8,
+) -> Result<Units, Refusal>
+    ensures { units_found result ≡ desk_security_total directory positions.now security }
 {
-    let mut index: [u16; INDEX] = [0; INDEX];
-    let mut names: [u8; NAMES] = [0; NAMES];
-    let number = early_refusal(
-        positions.len() != POSITIONS,
-        directory,
-        &mut index,
-        &mut names,
-    );
-    if number != 0 {
-        return SecurityTotal::NoUnits(number);
-    }
-    totals::security_total(&index, positions, security)
+    let kept = admit(positions.len() != POSITIONS, directory)?;
+    totals::security_total(&kept.numbers, positions, security)
 }
 
 // The sum of all balances.
-pub fn cash_total(cash: &[i64]) -> CashTotal
-    ensures { result ≡ desk_cash_total cash.now }
+pub fn cash_total(cash: &[i64]) -> Result<Cents, Refusal>
+    ensures { cents_found result ≡ desk_cash_total cash.now }
 {
     if cash.len() != ACCOUNTS {
-        return CashTotal::NoCents(3);
+        return Err(Refusal::LentList);
     }
     totals::cash_total(cash)
 }

@@ -5,22 +5,25 @@ use mathlib.Core.Bool.{Bool}
 use mathlib.Core.List.{List, []}
 use lib.ListN.{length}
 use borrow.Author.Tests.{eq-eqb, ne_eqb}
+use Rattle.std.specs.Prelude.{Result, Ok, Err}
 use Rattle.rules.specs.declared.Half.{Half}
 use Rattle.rules.specs.declared.Step.{Step}
-use Rattle.rules.specs.declared.Answer.{Answer}
-use Rattle.rules.specs.declared.Answer.TheVariants.{Chained, Refused}
+use Rattle.rules.specs.declared.refusal.Refusal.{Refusal}
+use Rattle.rules.specs.declared.answer.Answer.{Answer}
+use Rattle.rules.specs.declared.answer.Answer.TheVariants.{Chained, Refused}
+use Rattle.rules.specs.Numbers.{number, chained_by}
 use Rattle.rules.specs.Tests.{first_of}
 use Rattle.rules.specs.Directory.{rows_on}
 use Rattle.rules.specs.Lookups.{Lookups, ask}
 use Rattle.rules.specs.Chain.{chained, unchained, chain, steps_of, chain_conditions}
 use Rattle.rules.specs.Calls.{Halves, Store, Outcome, derive, outcome, core, written, delivering, receiving, side_unknown, same_side, both_conditions, halves_chain, derive_conditions}
 use Rattle.rules.proofs.Basics.{quiet, impossible}
+use Rattle.rules.proofs.Numbered.{number_ne0}
 use Rattle.rules.proofs.Conditions.{first_before, first_after}
 use Rattle.chain.specs.StepList.{step_numbers, steps_in, noted}
 use Rattle.chain.specs.Derivation.{chain_into, chain_between, deriving_conditions, Finds, Derived, derived_by, derived, derived_into, DerivedIn, Derives}
 use Rattle.halves.specs.Halves.{in_order, Handed}
 use Rattle.halves.specs.declared.InOrder.{InOrder}
-use Rattle.chain.specs.declared.steps.Found.{Found}
 use Rattle.chain.proofs.StepList.{steps_none, steps_counted, noted_none}
 use Rattle.chain.proofs.Linking.{found_refused, found_chained}
 
@@ -79,23 +82,21 @@ module _ (l : List ℕ) (k : Lookups) (h g : Half) (u s : Bool) where
     pub derives_halves : (n : ℕ) → n ≡ first_of (both_conditions k h g u s) → (n ≡ 0 → ⊥) → Derives l l k h g u s (Refused n)
     derives_halves n e z = derived_none l l (derived_into l k h g u s) n z (derived_fits l k h g u s fits ∙ refused_by_halves k h g u s n e z) refl
 
-    module _ (passed : first_of (both_conditions k h g u s) ≡ 0) (m : List ℕ) (r : Found) (f : Finds l m k h.security h.account g.account r) where
+    module _ (passed : first_of (both_conditions k h g u s) ≡ 0) (m : List ℕ) where
       chain_is : chain_between k h g ≡ chain_into l k h.security h.account g.account
       chain_is = sym (chain_fits l k h.security h.account g.account fits)
 
-      pub derives_refused : (r.refusal ≡ 0 → ⊥) → Derives l m k h g u s (Refused r.refusal)
-      derives_refused z =
-          let t = found_refused f z in
-          derived_none l m (derived_into l k h g u s) r.refusal z
-          (derived_fits l k h g u s fits ∙ refused_by_chain k h g u s passed r.refusal (chain_is ∙ t.0) z)
+      pub derives_found : (r : Result ℕ Refusal) → Finds l m k h.security h.account g.account r → Derives l m k h g u s (chained_by r)
+      derives_found (Err e) f =
+          let t = found_refused f in
+          derived_none l m (derived_into l k h g u s) (number e) (number_ne0 e)
+          (derived_fits l k h g u s fits ∙ refused_by_chain k h g u s passed (number e) (chain_is ∙ t.0) (number_ne0 e))
           t.1
-
-      pub derives_chained : r.refusal ≡ 0 → Derives l m k h g u s (Chained r.count)
-      derives_chained z =
-          let xs = steps_in m r.count in
-          rw (derived_fits l k h g u s fits ∙ accepted k h g u s passed xs (chain_is ∙ found_chained f z))
+      derives_found (Ok n) f =
+          let xs = steps_in m n in
+          rw (derived_fits l k h g u s fits ∙ accepted k h g u s passed xs (chain_is ∙ found_chained f))
           (record {
-            answer = ap Chained (steps_counted m r.count);
+            answer = ap Chained (steps_counted m n);
             steps = refl;
             list = f.list ∙ ap (λ (ys : List Step). noted ys l) (sym f.steps);
           })

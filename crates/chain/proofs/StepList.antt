@@ -4,7 +4,7 @@ use mathlib.Core.Path.{◌≡◌, refl, sym, ap, ◌∙◌}
 use mathlib.Core.Bool.{Bool, true, false, ◌&&◌, cond}
 use mathlib.Core.List.{List, [], ◌∷◌, ◌++◌}
 use native.Mathlib.Omega.{arith}
-use native.Mathlib.Nat.{mod-eq_of_lt, mod-lt}
+use native.Mathlib.Nat.{mod-eq_of_lt}
 use native.Mathlib.Numerals.{add-one}
 use lib.Dec.{eqb, ltb}
 use lib.ListN.{length, get_or, set, drop, length-set, length-append, length-drop}
@@ -40,15 +40,6 @@ module _ (l : List ℕ) (n : ℕ) (size : length l ≡ step_numbers) (room : n <
   pub put_here : (x : Step) → with_step l n x ≡ set_step l n x
   unfolding with_step
   put_here x = rw fits
-
--- its CSD is a byte, as one has no place for more
-pub step_small : (l : List ℕ) (n : ℕ) → (step_at l n).csd < 256
-unfolding step_at
-step_small l n = go (eqb (length l) step_numbers && ltb n step_limit)
-  where
-    go : (b : Bool) → (cond b (step (get_or l (3 * n) 0 % 256) (get_or l (3 * n + 1) 0) (get_or l (3 * n + 2) 0)) (step 0 0 0)).csd < 256
-    go true = mod-lt (get_or l (3 * n) 0) (omega arith)
-    go false = omega arith
 
 -- ---- a step put
 pub length_step : (l : List ℕ) (n : ℕ) (x : Step) → length (with_step l n x) ≡ length l
@@ -101,7 +92,7 @@ module _ (l : List ℕ) (n : ℕ) (x : Step) (size : length l ≡ step_numbers) 
       step_here (with_step l n x) n (length_step l n x ∙ size) room
       ∙ rw (first_number_lem, second_number, third_number, mod-eq_of_lt small)
 
-  pub one_more_lem : x.csd < 256 → steps_in (with_step l n x) (n + 1) ≡ steps_in l n ++ (x ∷ [])
+  one_more_lem : x.csd < 256 → steps_in (with_step l n x) (n + 1) ≡ steps_in l n ++ (x ∷ [])
   unfolding steps_in
   one_more_lem small =
       rw (add-one n)

@@ -1,23 +1,23 @@
 -- The chain between two accounts and the derivation for two halves, with the list lent for their steps. Assumes nothing.
-use Rattle.std.specs.Prelude.{ℕ, zero, suc, ◌≡◌, Bool, cond, List, [], ◌++◌, eqb, length}
+use Rattle.std.specs.Prelude.{ℕ, zero, suc, ◌≡◌, Bool, cond, Result, List, [], ◌++◌, eqb, length}
 use Rattle.rules.specs.declared.Half.{Half}
 use Rattle.rules.specs.declared.Step.{Step}
-use Rattle.rules.specs.declared.Answer.{Answer}
-use Rattle.rules.specs.declared.Answer.TheVariants.{Chained, Refused}
+use Rattle.rules.specs.declared.refusal.Refusal.{Refusal}
+use Rattle.rules.specs.declared.answer.Answer.{Answer}
+use Rattle.rules.specs.declared.answer.Answer.TheVariants.{Chained, Refused}
 use Rattle.rules.specs.Tests.{Condition, first_of}
 use Rattle.rules.specs.Lookups.{Lookups}
 use Rattle.rules.specs.Chain.{Chain, unchained, chain, steps_of, chain_conditions}
 use Rattle.rules.specs.Calls.{count_of, both_conditions}
 use Rattle.chain.specs.StepList.{step_numbers, steps_in, noted}
 use Rattle.chain.specs.Steps.{FoundIn}
-use Rattle.chain.specs.declared.steps.Found.{Found}
 
 -- the chain whose steps go into the lent list l; 3 where the list has another length
 unfoldable pub chain_into : List ℕ → Lookups → ℕ → ℕ → ℕ → Chain
 chain_into l k s a b = cond (eqb (length l) step_numbers) (chain k s a b) (unchained 3)
 
 -- what a function that finds it promises, with the list left as m
-abbrev pub Finds : List ℕ → List ℕ → Lookups → ℕ → ℕ → ℕ → Found → Type 0
+abbrev pub Finds : List ℕ → List ℕ → Lookups → ℕ → ℕ → ℕ → Result ℕ Refusal → Type 0
 Finds l m k s a b r = FoundIn l m (chain_into l k s a b) r
 
 -- What a derivation answers, and the steps of its chain.

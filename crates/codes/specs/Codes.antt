@@ -2,10 +2,7 @@
 use Rattle.std.specs.Prelude.{ℕ, ◌+◌, cond, ltb}
 use Rattle.rules.specs.declared.Answer.{Answer}
 use Rattle.rules.specs.declared.Answer.TheVariants.{Accepted, Booked, Chained, Refused}
-use Rattle.rules.specs.declared.SecurityTotal.{SecurityTotal}
-use Rattle.rules.specs.declared.SecurityTotal.TheVariants.{SumUnits, NoUnits}
-use Rattle.rules.specs.declared.CashTotal.{CashTotal}
-use Rattle.rules.specs.declared.CashTotal.TheVariants.{SumCents, NoCents}
+use Rattle.rules.specs.Booking.{SecurityTotal, SumUnits, NoUnits, CashTotal, SumCents, NoCents}
 
 -- where counts, rows or the place of a sum do not fit
 abbrev pub misfit : ℕ

@@ -1,6 +1,8 @@
-// What one call of the system's `read` or `write` did, by its answer and by the number of its error.
+// What one call of a reader or a writer did, by what it answered.
 ghost use Rattle.std.specs.Prelude.{◌≡◌};
 ghost use Rattle.descriptors.specs.Transfers.{transfer_of};
+
+use std::io;
 
 // Interrupted calls that are made again, in one reading or writing. Nothing here may loop forever, so one more is a failure.
 pub const INTERRUPTIONS: usize = 1_000_000;
@@ -15,22 +17,20 @@ pub const EAGAIN: i32 = 11;
 pub enum Transfer {
     Bytes(usize),
     Nothing,
-    Interrupted,
-    Failed,
+    Interrupted(io::Error),
+    Failed(io::Error),
 }
 
-// The error's number counts only where the answer is below 0.
-pub fn transfer_of(got: isize, error: i32) -> Transfer
-    ensures { result ≡ transfer_of got error }
-{
-    if got < 0 {
-        if error == EINTR {
-            return Transfer::Interrupted;
+// By the error's number, not by its kind: only the system can say that a signal interrupted a call.
+impl From<io::Result<usize>> for Transfer {
+    ghost from_gives = { λ answer transfer. transfer ≡ transfer_of answer };
+
+    fn from(answer: io::Result<usize>) -> Transfer {
+        match answer {
+            Ok(0) => Transfer::Nothing,
+            Ok(n) => Transfer::Bytes(n),
+            Err(e) if e.raw_os_error() == Some(EINTR) => Transfer::Interrupted(e),
+            Err(e) => Transfer::Failed(e),
         }
-        return Transfer::Failed;
     }
-    if got == 0 {
-        return Transfer::Nothing;
-    }
-    Transfer::Bytes(got as usize)
 }

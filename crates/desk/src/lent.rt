@@ -1,31 +1,19 @@
 // Derivation and settlement, with their steps in a lent list.
-ghost use Rattle.std.specs.Prelude.{◌≡◌, ◌≤◌, ◌<◌, length, get_or};
-ghost use Rattle.rules.specs.Chain.{step_limit, step};
+ghost use Rattle.std.specs.Prelude.{◌≡◌, ◌≤◌, length};
+ghost use Rattle.rules.specs.Chain.{step_limit};
 ghost use Rattle.rules.specs.Calls.{ordered, sided, written};
 ghost use Rattle.rules.specs.Outcomes.{settlement_on, derivation_on, step_rows};
 
 use calls::{derive_reply, derive_sided_reply, settle_reply, settle_sided_reply};
 use rules::{Answer, Directory, Half, Reply, SidedHalf, Step, Steps};
 
-fn step_of(from: Steps, i: usize) -> Step
-    requires { i < step_limit }
-    ensures { result ≡ get_or from.rows i (step 0 0 0) }
-{
-    from.rows[i]
-}
-
 // The steps at the start of the lent list; the rest is untouched.
 fn put_steps(steps: &mut [Step], from: Steps)
     requires { (from.count ≤ step_limit) × (from.count ≤ length steps.old) }
     ensures { steps.new ≡ written (step_rows from) steps.old }
 {
-    let k = from.count;
-    let mut i: usize = 0;
-    while i < k {
-        let s = step_of(from, i);
-        steps[i] = s;
-        i += 1;
-    }
+    let count = from.count;
+    steps[..count].copy_from_slice(&from.rows[..count]);
 }
 
 // The end of a derivation or settlement, apart so that the directory's types are not in sight where fields are read.

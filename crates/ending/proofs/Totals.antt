@@ -12,10 +12,14 @@ use lib.ListN.{length, take, get_or, get_elem?}
 use lib.Seq.{take-suc, take_all, length-take-le}
 use Rattle.rules.specs.declared.Account.{Account}
 use Rattle.rules.specs.declared.Security.{Security}
+use Rattle.std.proofs.Common.{Result, Ok, Err}
+use Rattle.std.specs.Result.{result_unwrap_or}
+use Rattle.rules.specs.declared.refusal.Refusal.{Refusal}
 use Rattle.rules.specs.declared.Units.{Units}
+use Rattle.rules.specs.declared.Cents.{Cents}
 use Rattle.rules.specs.Tests.{is_row}
 use Rattle.rules.specs.Directory.{Rows, rows_of, security_limit, account_limit, is_kind}
-use Rattle.rules.specs.Booking.{beyond, held_in, cash_on, sum_beyond, participants, every_account, cash_count, participant_sum}
+use Rattle.rules.specs.Booking.{SecurityTotal, CashTotal, units, cents, units_found, cents_found, beyond, held_in, cash_on, sum_beyond, participants, every_account, cash_count, participant_sum}
 use Rattle.rules.specs.Calls.{Store}
 use Rattle.rules.proofs.Permissions.{NotBeyond}
 use Rattle.rules.specs.Stream.{total_line, total_lines, ending}
@@ -27,7 +31,8 @@ use Rattle.index.specs.Index.{security_count, place_of, number_at}
 use Rattle.index.specs.Asked.{read, asked}
 use Rattle.index.proofs.Answers.{answers}
 use Rattle.identifiers.specs.Names.{isin_of}
-use Rattle.refusals.specs.Kept.{Kept, Keeps}
+use Rattle.refusals.specs.declared.kept.Kept.{Kept}
+use Rattle.refusals.specs.Kept.{Keeps}
 use Rattle.identifiers.proofs.Identified.{isin_shown}
 use Rattle.ending.specs.Ending.{units_in, cents_in, total_in, totals_in, securities_in, ending_in, Totalled}
 use Rattle.holdings.specs.Sums.{security_total, cash_total}
@@ -66,6 +71,17 @@ row_at (x ∷ xs) (suc i) d h = row_at xs i d (omega arith)
 pub counted : (l : List ℕ) → securities_in l ≡ min (number_at l (place_of security_count)) security_limit
 unfolding securities_in read
 counted l = refl
+
+-- a total, 0 where it is refused
+pub units_or : (r : Result Units Refusal) (z : SecurityTotal) → units_found r ≡ z → result_unwrap_or r (units 0) ≡ units_in z
+unfolding units_in
+units_or (Ok x) z e = ap units_in e
+units_or (Err n) z e = ap units_in e
+
+pub cents_or : (r : Result Cents Refusal) (z : CashTotal) → cents_found r ≡ z → result_unwrap_or r (cents 0) ≡ cents_in z
+unfolding cents_in
+cents_or (Ok x) z e = ap cents_in e
+cents_or (Err n) z e = ap cents_in e
 
 -- one security more
 pub total_told : (k : Kept) (p : List ℤ) (i : ℕ) (isin : List ℕ) (z : Units) → isin ≡ isin_of k.names i → z ≡ units_in (security_total (asked k.numbers) p i)

@@ -2,19 +2,15 @@
 use Rattle.std.specs.Prelude.{◌≡◌, ℕ, zero, suc, ◌<◌, min, List, [], ◌++◌, ℤ, length}
 use Rattle.rules.specs.declared.Units.{Units}
 use Rattle.rules.specs.declared.Cents.{Cents}
-use Rattle.rules.specs.declared.SecurityTotal.{SecurityTotal}
-use Rattle.rules.specs.declared.SecurityTotal.TheVariants.{SumUnits, NoUnits}
-use Rattle.rules.specs.declared.CashTotal.{CashTotal}
-use Rattle.rules.specs.declared.CashTotal.TheVariants.{SumCents, NoCents}
 use Rattle.rules.specs.Directory.{rows_of, security_limit}
 use Rattle.rules.specs.Lookups.{ask}
-use Rattle.rules.specs.Booking.{units, cents, participant_sum, cash_sum}
+use Rattle.rules.specs.Booking.{SecurityTotal, SumUnits, NoUnits, CashTotal, SumCents, NoCents, units, cents, participant_sum, cash_sum}
 use Rattle.rules.specs.Calls.{Store}
 use Rattle.rules.specs.Stream.{total_line, cash_line}
 use Rattle.index.specs.Index.{security_count}
 use Rattle.index.specs.Asked.{read, asked}
 use Rattle.identifiers.specs.Names.{isin_of}
-use Rattle.refusals.specs.Kept.{Kept}
+use Rattle.refusals.specs.declared.kept.Kept.{Kept}
 use Rattle.holdings.specs.Sums.{security_total, cash_total}
 
 -- ---- by what is held

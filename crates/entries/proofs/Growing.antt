@@ -15,7 +15,8 @@ use Rattle.rules.proofs.Growth.{keeps_sound}
 use Rattle.index.specs.Index.{Place, Inside, place_of, number_at, index_of, WholeTables}
 use Rattle.index.proofs.Standing.{number_at_lem}
 use Rattle.identifiers.specs.Names.{Named}
-use Rattle.refusals.specs.Kept.{Kept, Keeps}
+use Rattle.refusals.specs.declared.kept.Kept.{Kept}
+use Rattle.refusals.specs.Kept.{Keeps}
 use Rattle.entries.specs.Entered.{counted}
 use Rattle.entries.proofs.Stored.{Store, stored, Change, change_length, change_at}
 

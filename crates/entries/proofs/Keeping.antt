@@ -5,7 +5,8 @@ use Rattle.rules.specs.declared.Directory.{Directory}
 use Rattle.rules.specs.Tests.{first_of}
 use Rattle.rules.specs.Directory.{rows_of}
 use Rattle.rules.specs.Entries.{Row, csd_row, security_row, account_row, pair_row, link_row, row_conditions, add_row}
-use Rattle.refusals.specs.Kept.{Kept, Keeps, refusal_in}
+use Rattle.refusals.specs.declared.kept.Kept.{Kept}
+use Rattle.refusals.specs.Kept.{Keeps, refusal_in}
 use Rattle.entries.specs.Entered.{with_row_in, answered, kept_by, entered_in, entered_by, enter_row}
 use Rattle.refusals.proofs.Refusing.{refusal_is}
 use Rattle.entries.proofs.NewCsd.{csd_added}

@@ -13,7 +13,8 @@ use Rattle.rules.specs.Demands.{with_row}
 use Rattle.rules.proofs.Basics.{impossible, quiet}
 use Rattle.index.specs.Index.{account_count, home_at, kind_at, index_of, home_code, kind_code}
 use Rattle.index.proofs.Laws.{one_more_row, row_new, row_old}
-use Rattle.refusals.specs.Kept.{Kept, Keeps}
+use Rattle.refusals.specs.declared.kept.Kept.{Kept}
+use Rattle.refusals.specs.Kept.{Keeps}
 use Rattle.entries.specs.Entered.{with_account, with_row_in}
 use Rattle.entries.proofs.Stored.{Store, Change}
 use Rattle.entries.proofs.ByTable.{OfAccounts, Same, every_place, same_csds, same_securities, same_pairs, same_links}

@@ -15,7 +15,8 @@ use Rattle.rules.proofs.Basics.{impossible, quiet}
 use Rattle.index.specs.Index.{csd_count, type_at, index_of, type_code}
 use Rattle.index.proofs.Laws.{one_more_row, row_new, row_old}
 use Rattle.identifiers.specs.Names.{Named, bic_size, isin_size, isins, bic_byte}
-use Rattle.refusals.specs.Kept.{Kept, Keeps}
+use Rattle.refusals.specs.declared.kept.Kept.{Kept}
+use Rattle.refusals.specs.Kept.{Keeps}
 use Rattle.entries.specs.Entered.{with_csd, with_bic, with_row_in}
 use Rattle.entries.proofs.Stored.{Store, Change}
 use Rattle.entries.proofs.ByTable.{OfCsds, Same, every_place, same_securities, same_accounts, same_pairs, same_links}

@@ -23,7 +23,8 @@ use Rattle.index.specs.Index.{Place, link_count, newest_at, target_at, link_at, 
 use Rattle.index.proofs.LookingUp.{facts, csd_small, says_target}
 use Rattle.index.proofs.LinkList.{reversed}
 use Rattle.index.proofs.Laws.{unknown, one_more_row, row_new, row_old}
-use Rattle.refusals.specs.Kept.{Kept, Keeps}
+use Rattle.refusals.specs.declared.kept.Kept.{Kept}
+use Rattle.refusals.specs.Kept.{Keeps}
 use Rattle.entries.specs.Entered.{with_target, with_link, with_row_in}
 use Rattle.entries.proofs.Stored.{Store, Apart, Right, Change}
 use Rattle.entries.proofs.ByTable.{OfLinks, Same, every_place, same_csds, same_securities, same_accounts, same_pairs}

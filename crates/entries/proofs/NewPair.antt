@@ -24,7 +24,8 @@ use Rattle.rules.proofs.Pairs.{uses_mirror, uses_omnibus}
 use Rattle.index.specs.Index.{Place, pair_count, mirror_at, omnibus_at, investor_at, technical_at, served_at, Inside, index_of, duo_of, serves_at, served_row, mirror_code, omnibus_code, investor_code, technical_code}
 use Rattle.index.proofs.LookingUp.{facts, csd_small}
 use Rattle.index.proofs.Laws.{one_more_row}
-use Rattle.refusals.specs.Kept.{Kept, Keeps}
+use Rattle.refusals.specs.declared.kept.Kept.{Kept}
+use Rattle.refusals.specs.Kept.{Keeps}
 use Rattle.entries.specs.Entered.{with_duo, with_pair, with_row_in}
 use Rattle.entries.proofs.Stored.{Store, Right, Change}
 use Rattle.entries.proofs.ByTable.{OfPairs, Same, every_place, same_csds, same_securities, same_accounts, same_links}

@@ -15,7 +15,8 @@ use Rattle.rules.proofs.Basics.{quiet}
 use Rattle.index.specs.Index.{security_count, index_of}
 use Rattle.index.proofs.Laws.{one_more_row}
 use Rattle.identifiers.specs.Names.{Named, bic_size, isin_size, isins, isin_byte}
-use Rattle.refusals.specs.Kept.{Kept, Keeps}
+use Rattle.refusals.specs.declared.kept.Kept.{Kept}
+use Rattle.refusals.specs.Kept.{Keeps}
 use Rattle.entries.specs.Entered.{with_security, with_isin, with_row_in}
 use Rattle.entries.proofs.Stored.{Change}
 use Rattle.entries.proofs.ByTable.{Same, every_place, same_csds, same_accounts, same_pairs, same_links}

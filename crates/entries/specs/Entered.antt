@@ -1,5 +1,5 @@
 -- Entries over an index and the identifiers: what a row adds, unless it is refused. Assumes nothing.
-use Rattle.std.specs.Prelude.{◌≡◌, ℕ, zero, suc, ◌+◌, ◌*◌, cond, List, ltb, eqb, take}
+use Rattle.std.specs.Prelude.{ℕ, zero, suc, ◌+◌, ◌*◌, cond, List, ltb, eqb, take}
 use Rattle.rules.specs.declared.Csd.{Csd}
 use Rattle.rules.specs.declared.Security.{Security}
 use Rattle.rules.specs.declared.Account.{Account}
@@ -14,7 +14,8 @@ use Rattle.rules.specs.Directory.{rows_of, csd_limit, account_limit, link_limit,
 use Rattle.rules.specs.Entries.{Row, csd_row, security_row, account_row, pair_row, link_row, row_conditions, add_row}
 use Rattle.index.specs.Index.{Place, csd_count, security_count, account_count, pair_count, link_count, place_of, types, homes, kinds, mirrors, omnibuses, investors, technicals, served, newest, targets, links, next_number, first_number, last_number, kind_number, flag_number, technical_number, account_number, link_numbers, row_at, number_at, with_number}
 use Rattle.identifiers.specs.Names.{bic_size, isin_size, isins, with_bytes}
-use Rattle.refusals.specs.Kept.{Kept, csd_refusal_in, security_refusal_in, refusal_in}
+use Rattle.refusals.specs.declared.kept.Kept.{Kept}
+use Rattle.refusals.specs.Kept.{refusal_in}
 
 -- ---- what a row adds
 
@@ -98,24 +99,7 @@ abbrev pub answered : ℕ → Answer
 answered zero = Accepted
 answered (suc n) = Refused (suc n)
 
--- what it leaves: a list as it was, or with the row
-abbrev pub left : ℕ → List ℕ → List ℕ → List ℕ
-left zero before after = after
-left (suc n) before after = before
-
--- an entry of a CSD over the numbers l and the bytes b: its answer a, and both lists after it
-pub record EntersCsd (x : Csd) (l b : List ℕ) (a : Answer) (l' b' : List ℕ) : Type 0 where
-  pub answer : a ≡ answered (csd_refusal_in l b x)
-  pub numbers : l' ≡ left (csd_refusal_in l b x) l (with_csd x l)
-  pub names : b' ≡ left (csd_refusal_in l b x) b (with_bic x (number_at l (place_of csd_count)) b)
-
--- of a security
-pub record EntersSecurity (x : Security) (l b : List ℕ) (a : Answer) (l' b' : List ℕ) : Type 0 where
-  pub answer : a ≡ answered (security_refusal_in l b x)
-  pub numbers : l' ≡ left (security_refusal_in l b x) l (with_security x l)
-  pub names : b' ≡ left (security_refusal_in l b x) b (with_isin x (number_at l (place_of security_count)) b)
-
--- the same of all that is kept
+-- what is kept by the refusal's number
 abbrev pub kept_by : ℕ → Row → Kept → Kept
 kept_by zero x k = with_row_in x k
 kept_by (suc n) x k = k

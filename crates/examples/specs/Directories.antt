@@ -4,10 +4,20 @@ use Rattle.rules.specs.declared.Csd.{Csd}
 use Rattle.rules.specs.declared.Pair.{Pair}
 use Rattle.rules.specs.declared.Link.{Link}
 use Rattle.rules.specs.declared.Directory.{Directory}
+use Rattle.examples.specs.declared.rows.Row.{Row as AnyRow}
+use Rattle.examples.specs.declared.rows.Row.TheVariants.{Csd as ACsd, Security as ASecurity, Account as AnAccount, Pair as APair, Link as ALink}
 use Rattle.rules.specs.Directory.{no_csd, no_account}
 use Rattle.rules.specs.Entries.{Row, csd_row, security_row, account_row, pair_row, link_row}
 use Rattle.rules.specs.Stream.{bytes}
 use Rattle.rules.specs.Outcomes.{entered_on}
+
+-- the row that the rules know
+abbrev pub row_of : AnyRow → Row
+row_of (ACsd x) = csd_row x
+row_of (ASecurity x) = security_row x
+row_of (AnAccount x) = account_row x
+row_of (APair x) = pair_row x
+row_of (ALink x) = link_row x
 
 -- a directory with one row more; where its entry is refused, as it was
 abbrev pub entering : Row → Directory → Directory
@@ -26,6 +36,10 @@ csd_by external byte = record { external = external; bic = set (bytes "AAAAXX00X
 abbrev pub pair_by : ℕ → ℕ → ℕ → ℕ → ℕ → Pair
 pair_by investor technical mirror omnibus served = record { investor = investor; technical = technical; mirror = mirror; omnibus = omnibus; served = served }
 
+-- the examples' one security
+abbrev pub listing : Row
+listing = security_row (record { isin = bytes "XS0000000009" })
+
 -- a link for the one security, on every day
 abbrev pub link_by : ℕ → ℕ → ℕ → ℕ → ℕ → Link
 link_by kind csd technical flag account =
@@ -43,7 +57,7 @@ joining investor technical mirror omnibus served =
 -- the worked example: CSD 0 has the participant 0 and the mirror 1; CSD 1 has the omnibus 2, the issuance account 3 and the participant 4
 abbrev pub worked_rows : List Row
 worked_rows =
-    csd_row (csd_by 0 48) ∷ csd_row (csd_by 0 49) ∷ security_row (record { isin = bytes "XS0000000009" })
+    csd_row (csd_by 0 48) ∷ csd_row (csd_by 0 49) ∷ listing
     ∷ account_by 0 0 ∷ account_by 0 2 ∷ account_by 1 1 ∷ account_by 1 4 ∷ account_by 1 0
     ∷ link_row (link_by 0 1 no_csd 1 3) ∷ joining 0 1 1 2 0
 

@@ -1,51 +1,51 @@
-// A directory of the examples, its rows entered one after another (specs/Directories has them).
-ghost use Rattle.std.specs.Prelude.{◌≡◌};
+// The rows of the examples' directories (specs/Directories has them).
+ghost use Rattle.std.specs.Prelude.{◌≡◌, map};
 ghost use Rattle.rules.specs.Entries.{empty_directory};
-ghost use Rattle.examples.specs.Directories.{entering_all, joining, worked_rows, wider_rows};
+ghost use Rattle.examples.specs.Directories.{row_of, entering_all, worked_rows, wider_rows};
 
-use crate::entering::{after, csd, link, pair, with_account, with_csd, with_link, with_pair};
-use desk::{empty, enter_security};
-use rules::{Directory, NO_ACCOUNT, NO_CSD, Security};
-
-// An investor CSD with its technical issuer: their pair for one account served, and a default link.
-fn joined(
-    directory: Directory,
-    investor: u8,
-    technical: u8,
-    mirror: u16,
-    omnibus: u16,
-    served: u16,
-) -> Directory
-    ensures { result ≡ entering_all (joining investor technical mirror omnibus served) directory }
-{
-    let paired = with_pair(
-        directory,
-        pair(investor, technical, mirror, omnibus, served),
-    );
-    with_link(paired, link(1, investor, technical, 1, NO_ACCOUNT))
-}
+use crate::rows::{Row, with_all};
+use desk::empty;
+use rules::{Directory, ISSUANCE, MIRROR, OMNIBUS, PARTICIPANT};
 
 // The worked example's CSDs, security and accounts, its pair and its links.
-fn worked() -> Directory
-    ensures { result ≡ entering_all worked_rows empty_directory }
+pub fn worked_rows() -> [Row; 11]
+    ensures { map row_of result ≡ worked_rows }
 {
-    let csds = with_csd(with_csd(empty(), csd(0, b'0')), csd(0, b'1'));
-    let isin = *b"XS0000000009";
-    let listed = after(enter_security(csds, Security { isin }));
-    let first = with_account(with_account(listed, 0, 0), 0, 2);
-    let second = with_account(with_account(with_account(first, 1, 1), 1, 4), 1, 0);
-    let issued = with_link(second, link(0, 1, NO_CSD, 1, 3));
-    joined(issued, 0, 1, 1, 2, 0)
+    [
+        Row::csd(0, b'0'),
+        Row::csd(0, b'1'),
+        Row::security(),
+        Row::account(0, PARTICIPANT),
+        Row::account(0, MIRROR),
+        Row::account(1, OMNIBUS),
+        Row::account(1, ISSUANCE),
+        Row::account(1, PARTICIPANT),
+        Row::issuer(1, 3),
+        Row::pair(0, 1, 1, 2, 0),
+        Row::investor(0, 1, true),
+    ]
+}
+
+// After them: another participant of CSD 1, an investor CSD in it, and a CSD without link.
+fn wider_rows() -> [Row; 9]
+    ensures { map row_of result ≡ wider_rows }
+{
+    [
+        Row::account(1, PARTICIPANT),
+        Row::csd(0, b'2'),
+        Row::csd(0, b'3'),
+        Row::account(2, PARTICIPANT),
+        Row::account(2, MIRROR),
+        Row::account(1, OMNIBUS),
+        Row::account(3, PARTICIPANT),
+        Row::pair(2, 1, 7, 8, 6),
+        Row::investor(2, 1, true),
+    ]
 }
 
 // The worked example with two CSDs more.
 pub fn wider() -> Directory
     ensures { result ≡ entering_all wider_rows (entering_all worked_rows empty_directory) }
 {
-    let csds = with_csd(
-        with_csd(with_account(worked(), 1, 0), csd(0, b'2')),
-        csd(0, b'3'),
-    );
-    let third = with_account(with_account(with_account(csds, 2, 0), 2, 2), 1, 1);
-    joined(with_account(third, 3, 0), 2, 1, 7, 8, 6)
+    with_all(with_all(empty(), &worked_rows()), &wider_rows())
 }

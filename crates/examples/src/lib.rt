@@ -1,10 +1,15 @@
-// What the example programs share: words, numbers, steps and answers printed, a directory with one row more, and one that is entered row by row.
+// What the example programs share: rows of any table, the examples' directories, entered row by row, and halves, answers and steps.
 #![tactic(auto)]
 
-mod printing; // printing.rt: words, numbers, steps and answers on standard output
-mod entering; // entering.rt: rows, and a directory with one of them entered
-mod directories; // directories.rt: a directory entered row by row
+mod rows; // rows.rt: a row of any table, and a directory with it
+mod directories; // directories.rt: the rows of the examples' directories
+mod instructions; // instructions.rt: a half of an instruction
+mod printing; // printing.rt: answers and steps on standard output
 
-pub use directories::wider;
-pub use entering::{DAY, after, csd, link, pair, with_account, with_csd, with_link, with_pair};
-pub use printing::{put, put_answer, put_number, put_numbers, put_signed, put_step};
+pub use directories::{wider, worked_rows};
+pub use instructions::half;
+pub use printing::{put_answer, put_step};
+pub use rows::{Row, with, with_all};
+
+// The day of the calls.
+pub const DAY: u16 = 0;

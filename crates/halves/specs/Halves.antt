@@ -16,10 +16,6 @@ pub record Handed (hs : Halves) (h g : Half) (unknown same : Bool) : Type 0 wher
   pub unknown_side : side_unknown hs ≡ unknown
   pub one_side : same_side hs ≡ same
 
--- it is handed two halves
-abbrev pub Halved : Half → Half → Bool → Bool → Type 0
-Halved h g unknown same = (hs : Halves) × Handed hs h g unknown same
-
 -- the half h has a participant account, and for its counterpart a CSD that has the account a in its books
 pub record Faces (k : Lookups) (h : Half) (a : ℕ) : Type 0 where
   pub participant : k.kind h.account 0 ≡ true

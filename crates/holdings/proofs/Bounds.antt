@@ -4,7 +4,7 @@ use mathlib.Core.Bool.{false}
 use Prim.Native.Nat.{ℕ, ◌+◌, ◌*◌, ◌≤◌}
 use native.Mathlib.Omega.{arith}
 use borrow.Author.Tests.{ltb-false}
-use lib.IntN.{ℤ, nat_abs, ◌+ℤ◌}
+use lib.IntN.{ℤ, pos, nat_abs, ◌+ℤ◌}
 use mir.Syntax.{w64}
 use mir.Val.{SFits}
 use Rattle.rules.specs.Booking.{limit, beyond}
@@ -14,6 +14,9 @@ use Rattle.amounts.proofs.Integers.{up, dn, add_law, size, to_fits}
 pub record Within (n : ℕ) (z : ℤ) : Type 0 where
   pub most : up z ≤ dn z + n * limit
   pub least : dn z ≤ up z + n * limit
+
+pub within_none : Within 0 (pos 0)
+within_none = record { most = omega arith; least = omega arith }
 
 pub within_one : (z : ℤ) → beyond z ≡ false → Within 1 z
 unfolding beyond

@@ -6,11 +6,11 @@ use mathlib.Core.List.{List, [], ◌∷◌}
 use Prim.Native.Nat.{ℕ, zero, suc, ◌+◌, ◌*◌, ◌≤◌, ◌<◌}
 use native.Mathlib.Omega.{arith}
 use native.Mathlib.Nat.{eq-or-lt_of_le, le_of_suc-le-suc}
-use borrow.Author.Tests.{leb-true, ltb-true, eqb-true, lt-ltb, le-ltb}
+use borrow.Author.Tests.{le-leb, eq-eqb, leb-true, ltb-true, eqb-true, lt-ltb, le-ltb}
 use lib.Dec.{eqb, leb}
-use lib.IntN.{ℤ, pos, neg_ℤ, ◌+ℤ◌}
+use lib.IntN.{ℤ, pos, neg_ℤ, ◌+ℤ◌, ◌-ℤ◌}
 use lib.ListN.{length, get_or}
-use lib.Signed.{lt_z}
+use lib.Signed.{lt_z, le_z}
 use mir.Facts.{to_z-of_z}
 use mir.Syntax.{w64}
 use mir.Val.{SFits, to_z, of_z}
@@ -19,22 +19,61 @@ use Rattle.rules.specs.Tests.{any}
 use Rattle.rules.specs.Chain.{step_limit}
 use Rattle.rules.specs.Booking.{limit, position, place, beyond, floored, held_in, step_short, units_short, step_beyond, units_beyond}
 use Rattle.rules.proofs.Basics.{clash, and_both, or_left, or_right, or_none, unnot, unnot_false, untrue}
+use Rattle.amounts.proofs.Ranges.{lowest, as_signed, given_least, given_most, taken_least, taken_most, within_below, within_above, beyond_low, within_high}
 use Rattle.chain.specs.StepList.{step_numbers, step_at, steps_in}
 use Rattle.chain.proofs.StepList.{step_here}
 use Rattle.holdings.specs.Fitting.{stands, debit_fits, credit_fits, unfit, none_unfit, steps_fit, Standing}
 use Rattle.holdings.proofs.Listed.{steps_more, any_more}
 
 -- ---- a position by its place
-module _ (p : List ℤ) (s a at : ℕ) (is : at ≡ place s a) where
-  pub behind : length p ≤ at → stands p s a ≡ false
-  behind h = le-ltb (place s a) (length p) (omega arith)
+pub behind : (p : List ℤ) (s a at : ℕ) → at ≡ place s a → length p ≤ at → stands p s a ≡ false
+behind p s a at is h = le-ltb (place s a) (length p) (omega arith)
 
-  pub within : at < length p → stands p s a ≡ true
-  within h = lt-ltb (place s a) (length p) (omega arith)
+-- z is read where the position of a in s stands
+pub record Reads (p : List ℤ) (s a : ℕ) (z : ℤ) : Type 0 where
+  pub standing : stands p s a ≡ true
+  pub held : z ≡ held_in p s a
+  pub fits : SFits w64 z
 
-  pub held_there : SFits w64 (get_or p at (pos 0)) → to_z w64 (of_z w64 (get_or p at (pos 0))) ≡ held_in p s a
-  unfolding position
-  held_there f = to_z-of_z f ∙ rw is
+pub reads : (p : List ℤ) (s a at : ℕ) (z : ℤ) → at ≡ place s a → at < length p → z ≡ get_or p at (pos 0) → SFits w64 z → Reads p s a z
+unfolding position
+reads p s a at z is h e f = record { standing = lt-ltb (place s a) (length p) (omega arith); held = rw (← is) e; fits = f }
+
+-- ---- what is held, against q units: the code compares signed numbers of 64 bits
+module _ {p : List ℤ} {s a : ℕ} {z : ℤ} (r : Reads p s a z) (q : ℕ) (small : q ≤ limit) where
+  abbrev signed : ℤ → ℤ
+  signed x = to_z w64 (of_z w64 x)
+
+  abbrev count : ℤ
+  count = to_z w64 q
+
+  below : (b : Bool) → lt_z (signed z) count ≡ b → lt_z (held_in p s a) (pos q) ≡ b
+  below b e = rw (← r.held, ← to_z-of_z r.fits, ← as_signed q small) e
+
+  module _ (kind : ℕ → ℕ → Bool) where
+    pub debit_short : lt_z (signed z) count ≡ true → floored kind a ≡ true → false ≡ debit_fits kind p s q a
+    debit_short e f = rw (r.standing, f, below true e)
+
+    pub debit_low : lt_z (signed z) count ≡ true → floored kind a ≡ false → le_z (signed (count -ℤ pos limit)) (signed z) ≡ debit_fits kind p s q a
+    debit_low e f =
+        rw (r.standing, f, as_signed q small, to_z-of_z (given_least q small), to_z-of_z r.fits, r.held)
+        (within_below q small (held_in p s a) (below true e))
+
+    pub debit_high : lt_z (signed z) count ≡ false → le_z (signed z) (signed (pos limit +ℤ count)) ≡ debit_fits kind p s q a
+    debit_high e =
+        rw (r.standing, below false e, and-false (floored kind a), as_signed q small, to_z-of_z (given_most q small), to_z-of_z r.fits, r.held)
+        (within_above q small (held_in p s a) (below false e))
+
+  lowest_is : (b : Bool) → lt_z (signed z) (signed (lowest -ℤ count)) ≡ b → lt_z (held_in p s a) (lowest -ℤ pos q) ≡ b
+  lowest_is b e = rw (← r.held) (rw (as_signed q small, to_z-of_z (taken_least q small), to_z-of_z r.fits) at e)
+
+  pub credit_low : lt_z (signed z) (signed (lowest -ℤ count)) ≡ true → false ≡ credit_fits p s q a
+  credit_low e = rw (r.standing, beyond_low q small (held_in p s a) (lowest_is true e))
+
+  pub credit_high : lt_z (signed z) (signed (lowest -ℤ count)) ≡ false → le_z (signed z) (signed (pos limit -ℤ count)) ≡ credit_fits p s q a
+  credit_high e =
+      rw (r.standing, as_signed q small, to_z-of_z (taken_most q small), to_z-of_z r.fits, r.held)
+      (within_high q small (held_in p s a) (lowest_is false e))
 
 -- ---- five tests of a step: a, s and l of the debit, b and h of the credit
 unfit_is : (a b s l h : Bool) → (not (a && b) || (s || (l || h))) ≡ not ((a && not (s || l)) && (b && not h))
@@ -68,10 +107,6 @@ pub record AllFit (kind : ℕ → ℕ → Bool) (p : List ℤ) (s q : ℕ) (b : 
   pub standing : Standing p s b n
 
 module _ (kind : ℕ → ℕ → Bool) (p : List ℤ) (s q : ℕ) (b : List ℕ) where
-  pub fit_none : none_unfit kind p s q (steps_in b 0) ≡ true
-  unfolding steps_in
-  fit_none = refl
-
   -- the step i, by its two accounts
   module _ (size : length b ≡ step_numbers) (i : ℕ) (room : i < step_limit) where
     abbrev from : ℕ
@@ -86,23 +121,21 @@ module _ (kind : ℕ → ℕ → Bool) (p : List ℤ) (s q : ℕ) (b : List ℕ)
         let low = beyond (held_in p s from +ℤ neg_ℤ (pos q)) in
         rw (step_here b i size room) (unfit_is (stands p s from) (stands p s to) short low (beyond (held_in p s to +ℤ pos q)))
 
-    pub fit_more : none_unfit kind p s q (steps_in b i) ≡ true → debit_fits kind p s q from ≡ true → credit_fits p s q to ≡ true
-        → none_unfit kind p s q (steps_in b (i + 1)) ≡ true
-    fit_more e d c =
+    -- both accounts fit
+    abbrev pub fits_here : Bool
+    fits_here = debit_fits kind p s q from && credit_fits p s q to
+
+    pub fit_more : none_unfit kind p s q (steps_in b i) ≡ true → fits_here ≡ true → none_unfit kind p s q (steps_in b (i + 1)) ≡ true
+    fit_more e f =
         let before = unnot (any (unfit kind p s q) (steps_in b i)) e in
-        let now : unfit kind p s q (step_at b i) ≡ false = here ∙ rw (d, c) in
+        let now : unfit kind p s q (step_at b i) ≡ false = here ∙ rw f in
         rw (steps_more b i, any_more (unfit kind p s q) (steps_in b i) (step_at b i), before, now)
 
+    -- one that does not decides over those after it
+    pub unfit_at : (n : ℕ) → i < n → fits_here ≡ false → false ≡ none_unfit kind p s q (steps_in b n)
+    unfit_at n h e = rw (any_at (unfit kind p s q) b n i h (here ∙ rw e))
+
     module _ (n : ℕ) (h : i < n) where
-      unfit_here : unfit kind p s q (step_at b i) ≡ true → false ≡ none_unfit kind p s q (steps_in b n)
-      unfit_here e = rw (any_at (unfit kind p s q) b n i h e)
-
-      pub unfit_debit : debit_fits kind p s q from ≡ false → false ≡ none_unfit kind p s q (steps_in b n)
-      unfit_debit e = unfit_here (here ∙ rw e)
-
-      pub unfit_credit : credit_fits p s q to ≡ false → false ≡ none_unfit kind p s q (steps_in b n)
-      unfit_credit e = unfit_here (here ∙ rw (e, and-false (debit_fits kind p s q from)))
-
       fit_stands : any (unfit kind p s q) (steps_in b n) ≡ false → (place s from < length p) × (place s to < length p)
       fit_stands e =
           let fits = untrue (unfit kind p s q (step_at b i)) (λ t. clash (any (unfit kind p s q) (steps_in b n)) (any_at (unfit kind p s q) b n i h t) e) in
@@ -115,6 +148,11 @@ module _ (kind : ℕ → ℕ → Bool) (p : List ℤ) (s q : ℕ) (b : List ℕ)
   fit_apart x e =
       let short = step_short kind p s q x in
       or_none short (step_beyond p s q x) (or_none (not (stands p s x.debited && stands p s x.credited)) (short || step_beyond p s q x) e).1
+
+  -- a quantity, a list and a count in range leave it to the steps
+  pub steps_tried : length b ≡ step_numbers → q ≤ limit → (n : ℕ) → n ≤ step_limit → {r : Bool} → r ≡ none_unfit kind p s q (steps_in b n) → r ≡ steps_fit kind p s q b n
+  unfolding steps_fit
+  steps_tried size small n few e = rw (le-leb q limit small, eq-eqb (length b) step_numbers size, le-leb n step_limit few) e
 
   -- what fits is neither short nor beyond, and stands in the list
   pub fit_open : (n : ℕ) → steps_fit kind p s q b n ≡ true → AllFit kind p s q b n

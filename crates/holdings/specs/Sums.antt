@@ -1,15 +1,24 @@
 -- A total by its parts, as the code adds it up.
-use Rattle.std.specs.Prelude.{ℕ, Bool, cond, List, [], ◌∷◌, ℤ, pos}
-use Rattle.rules.specs.declared.SecurityTotal.{SecurityTotal}
-use Rattle.rules.specs.declared.CashTotal.{CashTotal}
+use Rattle.std.specs.Prelude.{ℕ, ◌≡◌, Bool, true, false, cond, List, [], ◌∷◌, ℤ, pos, Result, Ok, Err}
+use Rattle.rules.specs.declared.refusal.Refusal.{Refusal}
+use Rattle.rules.specs.declared.refusal.Refusal.TheVariants.{Beyond}
 use Rattle.rules.specs.Tests.{◌when◌, first_of}
 use Rattle.rules.specs.Directory.{account_limit}
 use Rattle.rules.specs.Lookups.{Lookups}
-use Rattle.rules.specs.Booking.{held_in, participants, participant_sum, cash_sum, sum_beyond, security_total_by, security_total_conditions, cash_total_by, cash_total_conditions}
+use Rattle.rules.specs.Booking.{SecurityTotal, CashTotal, sum, sum_beyond, held_in, participants, participant_sum, cash_sum, security_total_by, security_total_conditions, cash_total_by, cash_total_conditions}
+
+-- what an account counts for in the sum of f over the accounts that w picks
+abbrev pub picked : (ℕ → Bool) → (ℕ → ℤ) → ℕ → ℤ
+picked w f a = cond (w a) (f a) (pos 0)
 
 -- what an account counts for: a participant's position, else nothing
 abbrev pub counted : (ℕ → ℕ → Bool) → List ℤ → ℕ → ℕ → ℤ
-counted kind p s a = cond (participants kind a) (held_in p s a) (pos 0)
+counted kind p s a = picked (participants kind) (held_in p s) a
+
+-- the sum over all accounts, or 22
+abbrev pub SumFound : {N : Type 0} → (N → ℤ) → (ℕ → Bool) → (ℕ → ℤ) → Result N Refusal → Type 0
+SumFound number w f (Ok z) = (sum_beyond w f account_limit ≡ false) × (number z ≡ sum w f account_limit)
+SumFound number w f (Err e) = (sum_beyond w f account_limit ≡ true) × (e ≡ Beyond)
 
 -- the total of a security that is entered
 abbrev pub participant_total : (ℕ → ℕ → Bool) → List ℤ → ℕ → SecurityTotal

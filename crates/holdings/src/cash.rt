@@ -1,4 +1,6 @@
 // Cash in cents, by account: "cash short", and what ends beyond ±10^15. "amount 0 touches none".
+#![tactic(auto, unfolding(rules::specs::Booking::balance, rules::specs::Booking::cash_short, rules::specs::Booking::cash_beyond, rules::specs::Booking::payment_beyond))]
+
 ghost use Rattle.std.specs.Prelude.{◌≡◌};
 ghost use Rattle.rules.specs.Booking.{balance, cents, less_cents, cash_short, cash_beyond, payment_beyond};
 
@@ -10,7 +12,7 @@ use rules::Cents;
 pub(crate) fn balance_of(cash: &[i64], account: u16) -> Cents
     ensures { result ≡ balance cash.now account }
 {
-    Cents(read_at(cash, account as usize))
+    Cents(read_at(cash, usize::from(account)))
 }
 
 // 21: the balance that pays is below the amount.
@@ -40,12 +42,28 @@ pub fn payout_beyond(cash: &[i64], account: u16, amount: u64) -> bool
     less_beyond(held.0, amount)
 }
 
-// 22 of both.
-pub fn payment_beyond(cash: &[i64], payer: u16, payee: u16, amount: u64) -> bool
-    ensures { result ≡ payment_beyond cash.now payer payee amount }
-{
-    if amount != 0 {
-        return payout_beyond(cash, payer, amount) | receipt_beyond(cash, payee, amount);
+// "Receiving cash pays delivering cash": so many cents from one account to another.
+#[derive(Clone, Copy)]
+pub struct Payment {
+    pub payer: u16,
+    pub payee: u16,
+    pub amount: u64,
+}
+
+impl Payment {
+    // 21: the payer's balance is below the amount.
+    pub fn short(self, cash: &[i64]) -> bool
+        ensures { result ≡ cash_short cash.now self.payer self.amount }
+    {
+        cash_short(cash, self.payer, self.amount)
     }
-    false
+
+    // 22 of both.
+    pub fn beyond(self, cash: &[i64]) -> bool
+        ensures { result ≡ payment_beyond cash.now self.payer self.payee self.amount }
+    {
+        self.amount != 0
+            && (payout_beyond(cash, self.payer, self.amount)
+                | receipt_beyond(cash, self.payee, self.amount))
+    }
 }

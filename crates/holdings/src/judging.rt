@@ -23,6 +23,21 @@ pub struct Judged {
     pub beyond: bool,
 }
 
+// So many units of a security.
+#[derive(Clone, Copy)]
+pub struct Lot {
+    pub security: u8,
+    pub quantity: u64,
+}
+
+// A lot, and the steps by which it moves: the first `count` of the list.
+#[derive(Clone, Copy)]
+pub struct Transfer<'a> {
+    pub lot: Lot,
+    pub steps: &'a [u16],
+    pub count: usize,
+}
+
 // Whether the account is of a kind that "must not fall below 0".
 fn is_floored(index: &[u16; INDEX], account: u16) -> bool
     ensures { result ≡ floored (asked index.now).kind account }
@@ -32,143 +47,99 @@ fn is_floored(index: &[u16; INDEX], account: u16) -> bool
     participant | omnibus
 }
 
-// Of one step.
-pub fn judge_step(
-    index: &[u16; INDEX],
-    positions: &[i64],
-    security: u8,
-    quantity: u64,
-    step: Step,
-) -> Judged
-    ensures short { result.short ≡ step_short (asked index.now).kind positions.now security quantity step }
-    ensures beyond { result.beyond ≡ step_beyond positions.now security quantity step }
-{
-    let floored = is_floored(index, step.debited);
-    let from = position_of(positions, security, step.debited);
-    let to = position_of(positions, security, step.credited);
-    let below = is_below(from.0, quantity);
-    let low = less_beyond(from.0, quantity);
-    let high = more_beyond(to.0, quantity);
-    Judged {
-        short: floored & below,
-        beyond: low | high,
+impl Lot {
+    // Of one step that moves the lot.
+    pub fn judge(self, index: &[u16; INDEX], positions: &[i64], step: Step) -> Judged
+        ensures short { result.short ≡ step_short (asked index.now).kind positions.now self.security self.quantity step }
+        ensures beyond { result.beyond ≡ step_beyond positions.now self.security self.quantity step }
+    {
+        let floored = is_floored(index, step.debited);
+        let from = position_of(positions, self.security, step.debited);
+        let to = position_of(positions, self.security, step.credited);
+        let below = is_below(from.0, self.quantity);
+        let low = less_beyond(from.0, self.quantity);
+        let high = more_beyond(to.0, self.quantity);
+        Judged {
+            short: floored & below,
+            beyond: low | high,
+        }
     }
-}
 
-// Of the first `count` steps of the list.
-pub fn judge_steps(
-    index: &[u16; INDEX],
-    positions: &[i64],
-    security: u8,
-    quantity: u64,
-    steps: &[u16],
-    count: usize,
-) -> Judged
-    ensures short { result.short
-        ≡ units_short (asked index.now).kind positions.now security quantity (steps_in steps.now count) }
-    ensures beyond { result.beyond ≡ units_beyond positions.now security quantity (steps_in steps.now count) }
-{
-    let mut short = false;
-    let mut beyond = false;
-    let mut i: usize = 0;
-    while i < count {
-        let judged = judge_step(index, positions, security, quantity, step_at(steps, i));
-        short = short | judged.short;
-        beyond = beyond | judged.beyond;
-        i += 1;
+    // Whether the account can give the lot: its position stands in the list, the units are there where it must not fall below 0, and it ends within ±10^15.
+    fn debit_fits(self, index: &[u16; INDEX], positions: &[i64], account: u16) -> bool
+        requires { self.quantity ≤ limit }
+        ensures { result ≡ debit_fits (asked index.now).kind positions.now self.security self.quantity account }
+    {
+        let from = place(self.security, account);
+        let Some(&held) = positions.get(from) else {
+            return false;
+        };
+        let units = self.quantity as i64;
+        if held < units {
+            if is_floored(index, account) {
+                return false;
+            }
+            return units - MOST <= held;
+        }
+        held <= MOST + units
     }
-    Judged { short, beyond }
-}
 
-// Whether the account can give so many units: its position stands in the list, they are there where it must not fall below 0, and it ends within ±10^15.
-fn debit_fits(
-    index: &[u16; INDEX],
-    positions: &[i64],
-    security: u8,
-    quantity: u64,
-    account: u16,
-) -> bool
-    requires { quantity ≤ limit }
-    ensures { result ≡ debit_fits (asked index.now).kind positions.now security quantity account }
-{
-    let from = place(security, account);
-    if positions.len() <= from {
-        return false;
-    }
-    let held = positions[from];
-    let units = quantity as i64;
-    if held < units {
-        if is_floored(index, account) {
+    // Whether the account can take the lot: its position stands in the list, and it ends within ±10^15.
+    fn credit_fits(self, positions: &[i64], account: u16) -> bool
+        requires { self.quantity ≤ limit }
+        ensures { result ≡ credit_fits positions.now self.security self.quantity account }
+    {
+        let to = place(self.security, account);
+        let Some(&held) = positions.get(to) else {
+            return false;
+        };
+        let units = self.quantity as i64;
+        if held < -MOST - units {
             return false;
         }
-        return units - MOST <= held;
+        held <= MOST - units
     }
-    held <= MOST + units
 }
 
-// Whether the account can take so many units: its position stands in the list, and it ends within ±10^15.
-fn credit_fits(positions: &[i64], security: u8, quantity: u64, account: u16) -> bool
-    requires { quantity ≤ limit }
-    ensures { result ≡ credit_fits positions.now security quantity account }
-{
-    let to = place(security, account);
-    if positions.len() <= to {
-        return false;
+impl Transfer<'_> {
+    // Of all its steps.
+    pub fn judge(self, index: &[u16; INDEX], positions: &[i64]) -> Judged
+        ensures short { result.short
+            ≡ units_short (asked index.now).kind positions.now self.entry.lot.security self.entry.lot.quantity (steps_in self.entry.steps.now self.entry.count) }
+        ensures beyond { result.beyond ≡ units_beyond positions.now self.entry.lot.security self.entry.lot.quantity (steps_in self.entry.steps.now self.entry.count) }
+    {
+        let mut short = false;
+        let mut beyond = false;
+        for i in 0..self.count {
+            let judged = self.lot.judge(index, positions, step_at(self.steps, i));
+            short |= judged.short;
+            beyond |= judged.beyond;
+        }
+        Judged { short, beyond }
     }
-    let held = positions[to];
-    let units = quantity as i64;
-    if held < -MOST - units {
-        return false;
-    }
-    held <= MOST - units
-}
 
-// Whether the first `count` steps of the list fit: out at the first that does not.
-fn listed_fit(
-    index: &[u16; INDEX],
-    positions: &[i64],
-    security: u8,
-    quantity: u64,
-    steps: &[u16],
-    count: usize,
-) -> bool
-    requires { (quantity ≤ limit) × (length steps.now ≡ step_numbers) × (count ≤ step_limit) }
-    ensures { result ≡ none_unfit (asked index.now).kind positions.now security quantity (steps_in steps.now count) }
-{
-    let mut i: usize = 0;
-    while i < count {
-        let at = 3 * i;
-        if !debit_fits(index, positions, security, quantity, steps[at + 1]) {
+    // Whether a lot of 10^15 at most can be booked by steps of a list of steps: their positions stand in the list, none is short, and none ends beyond ±10^15.
+    // Out at the first that does not fit.
+    pub fn fits(self, index: &[u16; INDEX], positions: &[i64]) -> bool
+        ensures { result ≡ steps_fit (asked index.now).kind positions.now self.entry.lot.security self.entry.lot.quantity self.entry.steps.now self.entry.count }
+    {
+        let Transfer { lot, steps, count } = self;
+        if LIMIT < lot.quantity {
             return false;
         }
-        if !credit_fits(positions, security, quantity, steps[at + 2]) {
+        if steps.len() != STEP_NUMBERS || STEPS < count {
             return false;
         }
-        i += 1;
+        // A `for`: by `all` each step costs an instruction more.
+        for i in 0..count {
+            let at = 3 * i;
+            if !lot.debit_fits(index, positions, steps[at + 1]) {
+                return false;
+            }
+            if !lot.credit_fits(positions, steps[at + 2]) {
+                return false;
+            }
+        }
+        true
     }
-    true
-}
-
-// Whether a quantity of 10^15 at most can be booked by the first `count` steps of a list of steps: their positions stand in the list, none is short, and none
-// ends beyond ±10^15.
-pub fn steps_fit(
-    index: &[u16; INDEX],
-    positions: &[i64],
-    security: u8,
-    quantity: u64,
-    steps: &[u16],
-    count: usize,
-) -> bool
-    ensures { result ≡ steps_fit (asked index.now).kind positions.now security quantity steps.now count }
-{
-    if LIMIT < quantity {
-        return false;
-    }
-    if steps.len() != STEP_NUMBERS {
-        return false;
-    }
-    if STEPS < count {
-        return false;
-    }
-    listed_fit(index, positions, security, quantity, steps, count)
 }

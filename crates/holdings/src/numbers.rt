@@ -5,8 +5,5 @@ ghost use Rattle.std.specs.Prelude.{◌≡◌, pos, get_or};
 pub(crate) fn read_at(list: &[i64], k: usize) -> i64
     ensures { result ≡ get_or list.now k (pos 0) }
 {
-    if k < list.len() {
-        return list[k];
-    }
-    0
+    list.get(k).copied().unwrap_or(0)
 }

@@ -1,4 +1,6 @@
 // Positions in units of securities: where they lie, and what they hold.
+#![tactic(auto, unfolding(rules::specs::Booking::position))]
+
 ghost use Rattle.std.specs.Prelude.{◌≡◌};
 ghost use Rattle.rules.specs.Booking;
 ghost use Rattle.rules.specs.Booking.{position};
@@ -10,7 +12,7 @@ use rules::{SECURITIES, Units};
 pub fn place(security: u8, account: u16) -> usize
     ensures { result ≡ Booking.place security account }
 {
-    (account as usize) * SECURITIES + (security as usize)
+    usize::from(account) * SECURITIES + usize::from(security)
 }
 
 // The position of the account in the security.

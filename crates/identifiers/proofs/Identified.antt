@@ -1,7 +1,7 @@
 -- The identifiers that are kept are those of the rows in use: a search over the bytes is one over the rows, and a security's ISIN can be read.
 use Prim.Native.Nat.{ℕ, zero, suc, ◌+◌, ◌*◌, ◌≤◌, ◌<◌, min}
 use mathlib.Core.Path.{◌≡◌, refl, sym, ap, ◌∙◌}
-use mathlib.Core.Bool.{Bool, true, ◌&&◌, ◌||◌, or_assoc, or-false}
+use mathlib.Core.Bool.{Bool, true, ◌&&◌}
 use mathlib.Core.List.{List, [], ◌∷◌, Memᴰ}
 use mathlib.Core.Option.{none, some}
 use native.Mathlib.Omega.{arith}
@@ -9,7 +9,6 @@ use native.Mathlib.Decide.{dec_lt}
 use lib.Dec.{leb}
 use lib.ListN.{length, get_or, get_elem?, take, length-take, get_or-eq_default}
 use lib.Seq.{get_or-take, take_all}
-use borrow.Author.Tests.{lt-ltb}
 use Rattle.rules.specs.declared.Csd.{Csd}
 use Rattle.rules.specs.declared.Security.{Security}
 use Rattle.rules.specs.declared.Directory.{Directory}
@@ -24,8 +23,8 @@ use Rattle.index.specs.Index.{Indexed, csd_count, security_count}
 use Rattle.index.proofs.Laws.{unknown}
 use Rattle.index.proofs.LookingUp.{facts}
 use Rattle.index.proofs.Answers.{reads}
-use Rattle.identifiers.specs.Names.{Named, bic_size, isin_size, isins, names_size, name_byte, bic_of, isin_of, any_below, bic_in, isin_in, bic_byte, isin_byte}
-use Rattle.identifiers.proofs.Laws.{all_read, same_as}
+use Rattle.identifiers.specs.Names.{Named, bic_size, isin_size, isins, name_byte, bic_of, isin_of, any_below, bic_in, isin_in, bic_byte, isin_byte}
+use Rattle.identifiers.proofs.Laws.{all_read, same_as, any_first, byte_within}
 
 -- ---- rows by number
 row_within : {A : Type 0} (l : List A) (i : ℕ) (x : A) → get_elem? l i ≡ some x → i < length l
@@ -41,21 +40,12 @@ row_entered (y ∷ l) zero x e = let h : x ≡ y = cc in Memᴰ.head h
 row_entered (y ∷ l) (suc i) x e = Memᴰ.tail (row_entered l i x e)
 
 -- ---- a test of the numbers below the count is one of the rows
-any_first : (n : ℕ) (p : ℕ → Bool) → any_below (suc n) p ≡ (p 0 || any_below n (λ i. p (suc i)))
-unfolding any_below
-any_first zero p = sym (or-false (p 0))
-any_first (suc n) p = rw (any_first n p) (or_assoc (p 0) (any_below n (λ i. p (suc i))) (p (suc n)))
-
 any_rows : {A : Type 0} (t : A → Bool) (l : List A) (p : ℕ → Bool) → ((i : ℕ) (x : A) → get_elem? l i ≡ some x → p i ≡ t x) → any_below (length l) p ≡ any t l
 unfolding any_below
 any_rows t [] p h = refl
 any_rows t (x ∷ l) p h = any_first (length l) p ∙ rw (h 0 x refl, any_rows t l (λ i. p (suc i)) (λ i y e. h (suc i) y e))
 
 -- ---- the bytes
-byte_within : (b : List ℕ) (p : ℕ) → p < names_size → name_byte b p ≡ get_or b p 0
-unfolding name_byte
-byte_within b p h = rw (lt-ltb p names_size h)
-
 module _ (b : List ℕ) (r : Rows) (h : Named b r) where
   bic_byte_lem : (c : ℕ) (x : Csd) → c < csd_limit → get_elem? r.csds c ≡ some x → (k : ℕ) → k < bic_size → name_byte b (bic_size * c + k) ≡ byte_at x.bic k
   bic_byte_lem c x g e k l = byte_within b (bic_size * c + k) (omega arith) ∙ (h.bics c k g l ∙ ap (λ o. bic_byte o k) e)

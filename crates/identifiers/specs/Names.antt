@@ -4,7 +4,7 @@ use Rattle.std.proofs.Math.Option.{Option, none, some}
 use Rattle.std.proofs.Math.ListN.{get_elem?}
 use Rattle.rules.specs.declared.Csd.{Csd}
 use Rattle.rules.specs.declared.Security.{Security}
-use Rattle.rules.specs.Identifiers.{byte_at, same_bytes, same_bic, same_isin}
+use Rattle.rules.specs.Identifiers.{byte_at, same_bic, same_isin}
 use Rattle.rules.specs.Directory.{Rows, csd_limit, security_limit}
 use Rattle.index.specs.Index.{csd_count, security_count}
 use Rattle.index.specs.Asked.{read}
@@ -41,10 +41,6 @@ with_bytes b p (x ∷ xs) = with_bytes (with_byte b p x) (suc p) xs
 unfoldable pub bytes_from : List ℕ → ℕ → ℕ → List ℕ
 bytes_from b p zero = []
 bytes_from b p (suc n) = name_byte b p ∷ bytes_from b (suc p) n
-
--- the bytes x stand from the place on
-abbrev pub stands : List ℕ → ℕ → List ℕ → Bool
-stands b p x = same_bytes (length x) (bytes_from b p (length x)) x
 
 -- the BIC of a CSD
 abbrev pub bic_of : List ℕ → ℕ → List ℕ

@@ -5,20 +5,21 @@ use mathlib.Core.Bool.{Bool, true, false, ◌||◌, cond}
 use mathlib.Core.List.{List, [], ◌∷◌}
 use mathlib.Core.Option.{Option, none, some}
 use native.Mathlib.Omega.{arith}
+use Rattle.std.specs.Prelude.{Some, None}
+use Rattle.rules.proofs.Basics.{impossible}
 use Rattle.rules.specs.declared.Pair.{Pair}
 use Rattle.rules.specs.Tests.{any, find}
-use Rattle.index.specs.declared.lookups.PairFound.TheVariants as pair
 use Rattle.index.specs.Found.{pair_found}
 
-pub pair_row_lem : (o : Option Pair) (x : Pair) → pair_found o ≡ pair.Row x → o ≡ some x
+pub pair_row_lem : (o : Option Pair) (x : Pair) → pair_found o ≡ Some x → o ≡ some x
 unfolding pair_found
-pair_row_lem none x e = let z : ◌≡◌ {A = ℕ} 0 1 = cc in absurd (omega arith)
+pair_row_lem none x e = impossible (cc)
 pair_row_lem (some y) x e = cc
 
-pub pair_missing : (o : Option Pair) → pair_found o ≡ pair.Missing → o ≡ none
+pub pair_missing : (o : Option Pair) → pair_found o ≡ None → o ≡ none
 unfolding pair_found
 pair_missing none e = refl
-pair_missing (some y) e = let z : ◌≡◌ {A = ℕ} 0 1 = cc in absurd (omega arith)
+pair_missing (some y) e = impossible (cc)
 
 module _ {A : Type 0} (p : A → Bool) where
   pub any_found : (l : List A) (x : A) → find p l ≡ some x → true ≡ any p l

@@ -1,26 +1,13 @@
--- Laws that proofs share: tests of every number below another, the length of a table, and its rows in use.
+-- Laws that proofs share: the length of a table, and its rows in use.
 use Prim.Native.Nat.{ℕ, zero, suc, ◌+◌, ◌≤◌, ◌<◌, min}
 use mathlib.Core.Path.{◌≡◌, refl, sym, ap, ◌∙◌}
-use mathlib.Core.Logic.{◌≢◌, ⊎_elim}
-use mathlib.Core.Bool.{Bool, true, false, and-false}
+use mathlib.Core.Logic.{◌≢◌}
 use mathlib.Core.List.{List, [], ◌∷◌, ◌++◌, map}
 use mathlib.Core.Option.{none, some}
 use lib.ListN.{length, get_or, take, drop, get_elem?, length-map, length-take, length-append, drop_of_length-le}
 use lib.Seq.{drop-cons, get_or-take}
 use native.Mathlib.Omega.{arith}
 use native.Mathlib.Numerals.{add-one}
-use native.Mathlib.Nat.{eq-or-lt_of_le, le_of_suc-le-suc}
-use Rattle.rules.specs.Tests.{all_below}
-
--- ---- every number below n passes the test
-module _ (p : ℕ → Bool) where
-  pub all_more : (i : ℕ) → all_below i p ≡ true → p i ≡ true → all_below (i + 1) p ≡ true
-  all_more i a e = rw add-one (rw (a, e))
-
-  pub all_miss : (n i : ℕ) → i < n → p i ≡ false → all_below n p ≡ false
-  all_miss zero i h e = absurd (omega arith)
-  all_miss (suc n) i h e =
-      ⊎_elim (λ q. rw (← q, e) (and-false (all_below i p))) (λ l. rw (all_miss n i l e)) (eq-or-lt_of_le (le_of_suc-le-suc h))
 
 -- ---- a table of structs has the length of its array
 pub length_mapped : {X Y : Type 0} (f : X → Y) (l : List X) (n : ℕ) → length (map f l) ≡ n → length l ≡ n

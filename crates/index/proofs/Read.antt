@@ -1,8 +1,7 @@
 -- A place within the list, and beyond.
 use Prim.Native.Nat.{ℕ, ◌<◌}
-use mathlib.Core.Path.{◌≡◌, refl}
-use mathlib.Core.Logic.{◌≢◌}
-use mathlib.Core.Bool.{Bool, true, false, ◌&&◌}
+use mathlib.Core.Path.{◌≡◌}
+use mathlib.Core.Bool.{true, false, ◌&&◌}
 use mathlib.Core.List.{List}
 use lib.Dec.{ltb}
 use borrow.Author.Tests.{ltb-true, lt-ltb}
@@ -18,15 +17,6 @@ read_in l p e = rw e
 pub read_off : (l : List ℕ) (p : Place) → has p ≡ false → 0 ≡ read l p
 unfolding read
 read_off l p e = rw e
-
--- what is not 0 stands within the list
-pub read_within : (l : List ℕ) (p : Place) → read l p ≢ 0 → has p ≡ true
-unfolding read
-read_within l p h = go (has p) refl
-  where
-    go : (b : Bool) → has p ≡ b → has p ≡ true
-    go true e = e
-    go false e = absurd (h (rw e))
 
 both : (a b m n : ℕ) → (ltb a m && ltb b n) ≡ true → (a < m) × (b < n)
 both a b m n e = let t = and_both (ltb a m) (ltb b n) e in (ltb-true a m t.0, ltb-true b n t.1)

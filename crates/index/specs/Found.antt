@@ -1,12 +1,10 @@
 -- What a look-up answers: a pair's row if there is one, the link that is looked for, and where links lead by default. Assumes nothing.
-use Rattle.std.specs.Prelude.{Bool, true, false, ◌&&◌, cond, List, ℕ, zero, suc}
+use Rattle.std.specs.Prelude.{Bool, true, false, ◌&&◌, cond, List, ℕ, zero, suc, Some, None, Option as Answered}
 use Rattle.std.proofs.Math.Option.{Option, none, some}
 use Rattle.rules.specs.declared.Pair.{Pair}
 use Rattle.rules.specs.declared.Link.{Link}
 use Rattle.rules.specs.Directory.{covers, issues, defaults, points_to}
 use Rattle.rules.specs.Entries.{has_day_in, any_link}
-use Rattle.index.specs.declared.lookups.PairFound.{PairFound}
-use Rattle.index.specs.declared.lookups.PairFound.TheVariants.{Row, Missing}
 use Rattle.index.specs.declared.links.Leading.{Leading}
 use Rattle.index.specs.declared.links.Leading.TheVariants.{Issuer, To, Nowhere}
 use Rattle.index.specs.declared.links.Wanted.{Wanted}
@@ -14,10 +12,14 @@ use Rattle.index.specs.declared.links.Wanted.TheVariants.{Any, Issuers, Defaults
 use Rattle.index.specs.Index.{newest_at}
 use Rattle.index.specs.Asked.{read, link_in, ends_at, older_at, leads}
 
--- the pair's row, or that there is none
-unfoldable pub pair_found : Option Pair → PairFound
-pair_found none = Missing
-pair_found (some x) = Row x
+-- the pair's row, if there is one, as the code answers it
+unfoldable pub pair_found : Option Pair → Answered Pair
+pair_found none = None
+pair_found (some x) = Some x
+
+-- a link begins at the place, or none does
+abbrev pub begins : ℕ → Answered ℕ
+begins p = cond (ends_at p) None (Some p)
 
 -- the links that are looked for
 abbrev pub wants : Wanted → Link → Bool
@@ -39,10 +41,10 @@ found_by l s c t = code_from l s c t (read l (newest_at s c)) (read l (newest_at
 abbrev pub found_in : List ℕ → ℕ → ℕ → ℕ → ℕ → Wanted → ℕ
 found_in l s c first last w = found_by l s c (λ x. has_day_in first last x && wants w x)
 
--- the day after a link's last, 0 for no link
-unfoldable pub day_after : Option Link → ℕ
-day_after none = 0
-day_after (some x) = suc x.last
+-- the day after the last of a link, if there is one
+unfoldable pub day_after : Option Link → Answered ℕ
+day_after none = None
+day_after (some x) = Some (suc x.last)
 
 -- an issuer's own link comes first; then the default link, if there is one
 unfoldable pub leading_of : Bool → Option ℕ → Leading

@@ -1,14 +1,17 @@
 // The links of a CSD for a security, which the index has as a list, newest first: the newest by security and CSD, the next older one with each link. No other
 // link is read; whether any link for a security leads to a CSD stands at one place. Each question is answered for every list of numbers as specs/Asked says.
-ghost use Rattle.std.specs.Prelude.{◌≡◌, ◌&&◌, cond, ◌+◌, ◌*◌, ◌≤◌, ◌<◌, ltb};
+#![tactic(auto, unfolding(crate::specs::Asked::link_in, crate::specs::Asked::asked_by, crate::specs::Asked::read))]
+
+ghost use Rattle.std.specs.Prelude.{◌≡◌, ◌&&◌, cond, ℕ, Bool, ◌+◌, ◌*◌, ◌≤◌, ◌<◌, ltb};
 ghost use Rattle.rules.specs.Directory.{csd_limit, security_limit, covers, points_to};
 ghost use Rattle.rules.specs.Entries.{has_day_in, meets, default_on};
 ghost use Rattle.index.specs.Index.{newest_at, technical_number, link_numbers, targets, last_row, number_at};
 ghost use Rattle.index.specs.Asked.{read, technical_by, link_in, older_at, leads, links_at, is_target, asked, asked_on};
-ghost use Rattle.index.specs.Found.{leading_of, lead_in, wants, found_in, day_after};
+ghost use Rattle.index.specs.Found.{leading_of, lead_in, wants, begins, found_by, found_in, day_after};
+ghost use Rattle.rules.specs.declared.Link.{Link};
 
 use crate::places::{
-    ACCOUNT, FIRST, FLAG, INDEX, KIND, LAST, LAST_ROW, NEWEST, NEXT, TARGETS, TECHNICAL,
+    ACCOUNT, FIRST, FLAG, INDEX, KIND, LAST, LAST_ROW, NEWEST, NEXT, TARGETS, TECHNICAL, of_cell,
 };
 use rules::{CSDS, Link, NO_ACCOUNT, SECURITIES};
 
@@ -44,29 +47,18 @@ fn number_by(index: &[u16; INDEX], from: usize, security: u8, csd: u8) -> u16
 {
     let s = security as usize;
     let c = csd as usize;
-    if SECURITIES <= s {
-        return 0;
-    }
-    if CSDS <= c {
-        return 0;
-    }
-    index[from + (s * CSDS + c)]
+    of_cell(index, from, s, SECURITIES, c, CSDS)
 }
 
-// Where the newest link of the CSD for the security stands, 0 for none.
-fn newest_link(index: &[u16; INDEX], security: u8, csd: u8) -> u16
-    ensures { result ≡ read index.now (newest_at security csd) }
+// Where the newest link of the CSD for the security stands, if it has one.
+fn newest_link(index: &[u16; INDEX], security: u8, csd: u8) -> Option<u16>
+    ensures { result ≡ begins (read index.now (newest_at security csd)) }
 {
-    number_by(index, NEWEST, security, csd)
-}
-
-// Where the next older link stands, which is before this one; 0 for none.
-fn older_link(index: &[u16; INDEX], link: u16) -> u16
-    requires { link ≤ last_row }
-    ensures { result ≡ older_at index.now link }
-{
-    let next = number_at(index, link, NEXT);
-    if next < link { next } else { 0 }
+    let link = number_by(index, NEWEST, security, csd);
+    if link == 0 || LAST_ROW < link {
+        return None;
+    }
+    Some(link)
 }
 
 // The technical issuer of a link.
@@ -117,7 +109,31 @@ fn is_found(index: &[u16; INDEX], link: u16, first: u16, last: u16, wanted: Want
     has_day_in(index, link, first, last) & is_wanted(index, link, wanted)
 }
 
-// Where the newest link of the CSD for the security stands that is looked for and has a day among these, 0 for none.
+// Where the newest link of the CSD for the security stands that passes the test, if one does.
+fn newest_with<T: Fn(u16) -> bool>(
+    index: &[u16; INDEX],
+    security: u8,
+    csd: u8,
+    test: T,
+) -> Option<u16>
+    ghost told: { Link → Bool }
+    requires callable { (p : ℕ) → p ≤ last_row → T.pre test p }
+    requires tells { (p : ℕ) (b : Bool) → p ≤ last_row → T.post test p b → b ≡ told (link_in index.now security csd p) }
+    ensures { result ≡ begins (found_by index.now security csd told) }
+{
+    let mut link = newest_link(index, security, csd)?;
+    // A `while`: where the next older link stands, which is before this one, is read of this one.
+    while !test(link) {
+        let older = number_at(index, link, NEXT);
+        if older == 0 || link <= older {
+            return None;
+        }
+        link = older;
+    }
+    Some(link)
+}
+
+// Where the newest link of the CSD for the security stands that is looked for and has a day among these, if one does.
 fn find_link(
     index: &[u16; INDEX],
     security: u8,
@@ -125,38 +141,30 @@ fn find_link(
     first: u16,
     last: u16,
     wanted: Wanted,
-) -> u16
-    ensures { result ≡ found_in index.now security csd first last wanted }
+) -> Option<u16>
+    ensures { result ≡ begins (found_in index.now security csd first last wanted) }
 {
-    let mut link = newest_link(index, security, csd);
-    if LAST_ROW < link {
-        return 0;
-    }
-    while link != 0 {
-        if is_found(index, link, first, last, wanted) {
-            return link;
-        }
-        link = older_link(index, link);
-    }
-    0
+    newest_with(
+        index,
+        security,
+        csd,
+        |link| is_found(index, link, first, last, wanted),
+    )
 }
 
 // Whether the row's CSD has a link for its security that shares a day with it and is looked for.
 pub fn meets_link(index: &[u16; INDEX], row: Link, wanted: Wanted) -> bool
     ensures { result ≡ meets (asked index.now) row (wants wanted) }
 {
-    find_link(index, row.security, row.csd, row.first, row.last, wanted) != 0
+    find_link(index, row.security, row.csd, row.first, row.last, wanted).is_some()
 }
 
-// The day after the last of the CSD's default link for the security on a day, 0 where it has none.
-pub fn day_after_default(index: &[u16; INDEX], security: u8, csd: u8, day: u16) -> u32
+// The day after the last of the CSD's default link for the security on a day, if it has one.
+pub fn day_after_default(index: &[u16; INDEX], security: u8, csd: u8, day: u16) -> Option<u32>
     ensures { result ≡ day_after (default_on (links_at index.now security csd) day) }
 {
-    let link = find_link(index, security, csd, day, day, Wanted::Defaults);
-    if link == 0 {
-        return 0;
-    }
-    (number_at(index, link, LAST) as u32) + 1
+    let link = find_link(index, security, csd, day, day, Wanted::Defaults)?;
+    Some((number_at(index, link, LAST) as u32) + 1)
 }
 
 // Whether the link is an issuer link or a default link on the day.
@@ -181,31 +189,20 @@ fn points_on(index: &[u16; INDEX], link: u16, technical: u8, day: u16) -> bool
     (number_at(index, link, KIND) == 1) & is_valid(index, link, day)
 }
 
-// Where the CSD's issuer link or default link for the security on the day stands, 0 for none.
-fn lead_link(index: &[u16; INDEX], security: u8, csd: u8, day: u16) -> u16
-    ensures { result ≡ lead_in index.now security csd day }
+// Where the CSD's issuer link or default link for the security on the day stands, if it has one.
+fn lead_link(index: &[u16; INDEX], security: u8, csd: u8, day: u16) -> Option<u16>
+    ensures { result ≡ begins (lead_in index.now security csd day) }
 {
-    let mut link = newest_link(index, security, csd);
-    if LAST_ROW < link {
-        return 0;
-    }
-    while link != 0 {
-        if leads_on(index, link, day) {
-            return link;
-        }
-        link = older_link(index, link);
-    }
-    0
+    newest_with(index, security, csd, |link| leads_on(index, link, day))
 }
 
 // Where the CSD's links for the security lead by default on the day.
 pub fn leading_at(index: &[u16; INDEX], security: u8, csd: u8, day: u16) -> Leading
     ensures { result ≡ leading_of ((asked_on index.now day).issuer security csd) ((asked_on index.now day).onward security csd) }
 {
-    let link = lead_link(index, security, csd, day);
-    if link == 0 {
+    let Some(link) = lead_link(index, security, csd, day) else {
         return Leading::Nowhere;
-    }
+    };
     if number_at(index, link, KIND) == 0 {
         return Leading::Issuer;
     }
@@ -216,14 +213,10 @@ pub fn leading_at(index: &[u16; INDEX], security: u8, csd: u8, day: u16) -> Lead
 pub fn issuance_of(index: &[u16; INDEX], security: u8, csd: u8, day: u16) -> u16
     ensures { result ≡ (asked_on index.now day).issuing security csd }
 {
-    let link = lead_link(index, security, csd, day);
-    if link == 0 {
-        return NO_ACCOUNT;
+    match lead_link(index, security, csd, day) {
+        Some(link) if number_at(index, link, KIND) == 0 => number_at(index, link, ACCOUNT),
+        _ => NO_ACCOUNT,
     }
-    if number_at(index, link, KIND) != 0 {
-        return NO_ACCOUNT;
-    }
-    number_at(index, link, ACCOUNT)
 }
 
 // Whether an investor link for the security has the CSD as technical issuer.
@@ -240,15 +233,11 @@ pub fn has_link_to(index: &[u16; INDEX], security: u8, csd: u8, technical: u8, d
     if !is_target(index, security, technical) {
         return false;
     }
-    let mut link = newest_link(index, security, csd);
-    if LAST_ROW < link {
-        return false;
-    }
-    while link != 0 {
-        if points_on(index, link, technical, day) {
-            return true;
-        }
-        link = older_link(index, link);
-    }
-    false
+    newest_with(
+        index,
+        security,
+        csd,
+        |link| points_on(index, link, technical, day),
+    )
+    .is_some()
 }

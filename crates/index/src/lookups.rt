@@ -1,5 +1,7 @@
 // Questions to an index, but for those to links. Each is answered for every list of numbers as specs/Asked says; where the list is the index of a directory,
 // that is what searching its tables would answer.
+#![tactic(auto, unfolding(crate::specs::Asked::asked_by, crate::specs::Asked::read))]
+
 ghost use Rattle.std.specs.Prelude.{◌≡◌, ◌%◌, ◌<◌, leb};
 ghost use Rattle.rules.specs.Directory.{account_limit, link_limit};
 ghost use Rattle.rules.specs.Lookups.{is_account_of};
@@ -9,26 +11,15 @@ ghost use Rattle.index.specs.Found.{pair_found};
 
 use crate::places::{
     ACCOUNT_COUNT, HOMES, INDEX, INVESTORS, KINDS, LINK_COUNT, MIRRORS, OMNIBUSES, PAIR_COUNT,
-    SECURITY_COUNT, SERVED, TECHNICALS, TYPES, entry,
+    SECURITY_COUNT, SERVED, TECHNICALS, TYPES, entry, of_cell, of_row,
 };
 use rules::{ACCOUNTS, CSDS, LINKS, PAIRS, Pair};
-
-// A pair's row, if there is one.
-#[derive(Clone, Copy)]
-pub enum PairFound {
-    Row(Pair),
-    Missing,
-}
 
 // One more than the CSD's type, 0 where the number names no row.
 fn type_code(index: &[u16; INDEX], csd: u8) -> u16
     ensures { result ≡ read index.now (type_at csd) }
 {
-    let c = csd as usize;
-    if CSDS <= c {
-        return 0;
-    }
-    entry(index, TYPES + c)
+    of_row(index, TYPES, csd as usize, CSDS)
 }
 
 // Whether the table holds as many rows as it may.
@@ -74,22 +65,14 @@ pub fn is_external(index: &[u16; INDEX], csd: u8) -> bool
 fn home_code(index: &[u16; INDEX], account: u16) -> u16
     ensures { result ≡ read index.now (home_at account) }
 {
-    let a = account as usize;
-    if ACCOUNTS <= a {
-        return 0;
-    }
-    entry(index, HOMES + a)
+    of_row(index, HOMES, account as usize, ACCOUNTS)
 }
 
 // One more than the account's kind, 0 where the number names no row.
 fn kind_code(index: &[u16; INDEX], account: u16) -> u16
     ensures { result ≡ read index.now (kind_at account) }
 {
-    let a = account as usize;
-    if ACCOUNTS <= a {
-        return 0;
-    }
-    entry(index, KINDS + a)
+    of_row(index, KINDS, account as usize, ACCOUNTS)
 }
 
 pub fn is_account(index: &[u16; INDEX], account: u16) -> bool
@@ -160,13 +143,7 @@ fn served_code(index: &[u16; INDEX], technical: u8, served: u16) -> u16
 {
     let t = technical as usize;
     let a = served as usize;
-    if CSDS <= t {
-        return 0;
-    }
-    if ACCOUNTS <= a {
-        return 0;
-    }
-    entry(index, SERVED + (t * ACCOUNTS + a))
+    of_cell(index, SERVED, t, CSDS, a, ACCOUNTS)
 }
 
 // The account that stands in a duo with the account in the investor's books, which is of the table.
@@ -177,20 +154,16 @@ fn omnibus_beside(index: &[u16; INDEX], mirror: u16) -> u16
     entry(index, OMNIBUSES + a)
 }
 
-// The row of an investor CSD, its technical issuer and the account served.
-pub fn pair_of(index: &[u16; INDEX], investor: u8, technical: u8, served: u16) -> PairFound
+// The row of an investor CSD, its technical issuer and the account served, if there is one.
+pub fn pair_of(index: &[u16; INDEX], investor: u8, technical: u8, served: u16) -> Option<Pair>
     ensures { result ≡ pair_found ((asked index.now).pair investor technical served) }
 {
     if !in_books(index, served, investor) {
-        return PairFound::Missing;
+        return None;
     }
-    let code = served_code(index, technical, served);
-    if code == 0 {
-        return PairFound::Missing;
-    }
-    let mirror = code - 1;
+    let mirror = served_code(index, technical, served).checked_sub(1)?;
     let omnibus = omnibus_beside(index, mirror);
-    PairFound::Row(Pair {
+    Some(Pair {
         investor,
         technical,
         mirror,

@@ -1,6 +1,6 @@
 // Where the numbers of an index stand (specs/Index has what each means).
-ghost use Rattle.std.specs.Prelude.{◌≡◌};
-ghost use Rattle.index.specs.Index.{number_at, with_number};
+ghost use Rattle.std.specs.Prelude.{◌≡◌, ◌+◌, ◌*◌, ◌≤◌, ◌&&◌, cond, ltb};
+ghost use Rattle.index.specs.Index.{index_size, number_at, with_number};
 
 use rules::{ACCOUNTS, CSDS, LINKS, SECURITIES};
 
@@ -73,6 +73,35 @@ pub fn entry(index: &[u16; INDEX], place: usize) -> u16
 {
     if place < INDEX {
         return index[place];
+    }
+    0
+}
+
+// The number of a row among those that stand from a place on, 0 beyond the table.
+pub(crate) fn of_row(index: &[u16; INDEX], from: usize, row: usize, rows: usize) -> u16
+    requires { from + rows ≤ index_size }
+    ensures { result ≡ cond (ltb row rows) (number_at index.now (from + row)) 0 }
+{
+    if row < rows {
+        return index[from + row];
+    }
+    0
+}
+
+// The number of a row and a column among those that stand row by row, 0 beyond the tables.
+pub(crate) fn of_cell(
+    index: &[u16; INDEX],
+    from: usize,
+    row: usize,
+    rows: usize,
+    column: usize,
+    columns: usize,
+) -> u16
+    requires { from + rows * columns ≤ index_size }
+    ensures { result ≡ cond (ltb row rows && ltb column columns) (number_at index.now (from + (row * columns + column))) 0 }
+{
+    if row < rows && column < columns {
+        return index[from + (row * columns + column)];
     }
     0
 }

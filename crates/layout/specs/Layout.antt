@@ -6,17 +6,12 @@ use Rattle.rules.specs.declared.Account.{Account}
 use Rattle.rules.specs.declared.Pair.{Pair}
 use Rattle.rules.specs.declared.Link.{Link}
 use Rattle.rules.specs.declared.Step.{Step}
-use Rattle.rules.specs.declared.CsdTable.{CsdTable}
-use Rattle.rules.specs.declared.SecurityTable.{SecurityTable}
-use Rattle.rules.specs.declared.AccountTable.{AccountTable}
-use Rattle.rules.specs.declared.PairTable.{PairTable}
-use Rattle.rules.specs.declared.LinkTable.{LinkTable}
+use Rattle.rules.specs.declared.Table.{Table}
 use Rattle.rules.specs.declared.Directory.{Directory}
-use Rattle.rules.specs.declared.Steps.{Steps}
 use Rattle.rules.specs.Directory.{csd_limit, security_limit, account_limit, pair_limit, link_limit}
 use Rattle.rules.specs.Entries.{Row, csd_row, security_row, account_row, pair_row, link_row, blank_account, blank_pair, blank_link}
 use Rattle.rules.specs.Chain.{step, step_limit}
-use Rattle.rules.specs.Outcomes.{step_rows}
+use Rattle.rules.specs.Outcomes.{Steps, step_rows}
 use Rattle.rules.specs.Stream.{account_at, pair_at, link_at}
 use Rattle.wire.specs.Operands.{csd_in, security_in}
 
@@ -118,19 +113,19 @@ rows_in row start w bytes zero = []
 rows_in row start w bytes (suc n) = rows_in row start w bytes n ++ (row (drop (start + n * w) bytes) ∷ [])
 
 -- each table, all its rows, in use or not
-unfoldable pub csds_in : ℕ → List ℕ → CsdTable
+unfoldable pub csds_in : ℕ → List ℕ → Table Csd csd_limit
 csds_in count bytes = record { count = count; rows = rows_in csd_in csds_start csd_width bytes csd_limit }
 
-unfoldable pub securities_in : ℕ → List ℕ → SecurityTable
+unfoldable pub securities_in : ℕ → List ℕ → Table Security security_limit
 securities_in count bytes = record { count = count; rows = rows_in security_in securities_start security_width bytes security_limit }
 
-unfoldable pub accounts_in : ℕ → List ℕ → AccountTable
+unfoldable pub accounts_in : ℕ → List ℕ → Table Account account_limit
 accounts_in count bytes = record { count = count; rows = rows_in account_in accounts_start account_width bytes account_limit }
 
-unfoldable pub pairs_in : ℕ → List ℕ → PairTable
+unfoldable pub pairs_in : ℕ → List ℕ → Table Pair pair_limit
 pairs_in count bytes = record { count = count; rows = rows_in pair_in pairs_start pair_width bytes pair_limit }
 
-unfoldable pub links_in : ℕ → List ℕ → LinkTable
+unfoldable pub links_in : ℕ → List ℕ → Table Link link_limit
 links_in count bytes = record { count = count; rows = rows_in link_in links_start link_width bytes link_limit }
 
 unfoldable pub directory_in : List ℕ → List ℕ → Directory
@@ -190,19 +185,19 @@ bytes_in bytes blank w rows zero = []
 bytes_in bytes blank w rows (suc n) = bytes_in bytes blank w rows n ++ (get_or (bytes (get_or rows (n / w) blank)) (n % w) 0 ∷ [])
 
 -- the bytes of each table, and of steps
-abbrev pub bytes_of_csds : CsdTable → List ℕ
+abbrev pub bytes_of_csds : Table Csd csd_limit → List ℕ
 bytes_of_csds t = bytes_in csd_bytes no_csd csd_width t.rows csds_length
 
-abbrev pub bytes_of_securities : SecurityTable → List ℕ
+abbrev pub bytes_of_securities : Table Security security_limit → List ℕ
 bytes_of_securities t = bytes_in security_bytes no_security security_width t.rows securities_length
 
-abbrev pub bytes_of_accounts : AccountTable → List ℕ
+abbrev pub bytes_of_accounts : Table Account account_limit → List ℕ
 bytes_of_accounts t = bytes_in account_bytes blank_account account_width t.rows accounts_length
 
-abbrev pub bytes_of_pairs : PairTable → List ℕ
+abbrev pub bytes_of_pairs : Table Pair pair_limit → List ℕ
 bytes_of_pairs t = bytes_in pair_bytes blank_pair pair_width t.rows pairs_length
 
-abbrev pub bytes_of_links : LinkTable → List ℕ
+abbrev pub bytes_of_links : Table Link link_limit → List ℕ
 bytes_of_links t = bytes_in link_bytes blank_link link_width t.rows links_length
 
 unfoldable pub bytes_of_steps : List Step → List ℕ

@@ -2,378 +2,193 @@
 // the command that enters it.
 #![tactic(auto)]
 
-ghost use Rattle.std.specs.Prelude.{◌≡◌, ◌+◌, ◌*◌, ◌<◌, ◌≤◌, ◌/◌, ◌%◌, min, length, get_or};
-ghost use Rattle.rules.specs.Chain.{step_limit};
-ghost use Rattle.rules.specs.Outcomes.{step_rows};
-ghost use Rattle.layout.specs.Layout.{csd_width, security_width, account_width, pair_width, link_width, step_width};
-ghost use Rattle.layout.specs.Layout.{csds_start, securities_start, accounts_start, pairs_start, links_start, counts_length, rows_length};
-ghost use Rattle.layout.specs.Layout.{csds_in, securities_in, accounts_in, pairs_in, links_in, directory_in};
+ghost use Rattle.std.specs.Prelude.{◌≡◌, ◌+◌, ◌*◌, ◌^◌, ◌<◌, ◌≤◌, ℕ, List, length, get_or};
+ghost use Rattle.rules.specs.Chain.{step};
+ghost use Rattle.rules.specs.Entries.{blank_account, blank_pair, blank_link};
+ghost use Rattle.wire.specs.Operands.{listed};
+ghost use Rattle.layout.specs.Layout.{directory_in};
 ghost use Rattle.layout.specs.Layout.{csd_bytes, security_bytes, account_bytes, pair_bytes, link_bytes, step_bytes};
-ghost use Rattle.layout.specs.Layout.{bytes_of_csds, bytes_of_securities, bytes_of_accounts, bytes_of_pairs, bytes_of_links, bytes_of};
-ghost use Rattle.layout.specs.Layout.{counts_of, filled, with_steps, steps_put, Put};
+ghost use Rattle.layout.specs.Layout.{no_csd, no_security, counts_length, rows_length, bytes_in, bytes_of};
+ghost use Rattle.layout.specs.Layout.{counts_of, filled, steps_put, Put};
 
 use rules::{
-    ACCOUNTS, Account, AccountTable, BIC, CSDS, Csd, CsdTable, Directory, ISIN, LINKS, Link,
-    LinkTable, PAIRS, Pair, PairTable, SECURITIES, STEPS, Security, SecurityTable, Step, Steps,
+    ACCOUNTS, Account, CSDS, Csd, Directory, LINKS, Link, PAIRS, Pair, SECURITIES, Security, Step,
+    Steps, Table,
 };
-use wire::operands;
+use std::array;
+use wire::decoding::{FromBytes, decode};
+use wire::operands::{ACCOUNT_WIDTH, CSD_WIDTH, LINK_WIDTH, PAIR_WIDTH, SECURITY_WIDTH};
 
-// Bytes of a row of each table, and of a step.
-const CSD_WIDTH: usize = 12;
-
-const SECURITY_WIDTH: usize = 12;
-
-const ACCOUNT_WIDTH: usize = 2;
-
-const PAIR_WIDTH: usize = 8;
-
-const LINK_WIDTH: usize = 11;
-
+// Bytes of a step.
 pub const STEP_WIDTH: usize = 5;
-
-// Bytes of each table.
-const CSD_BYTES: usize = CSDS * CSD_WIDTH;
-
-const SECURITY_BYTES: usize = SECURITIES * SECURITY_WIDTH;
-
-const ACCOUNT_BYTES: usize = ACCOUNTS * ACCOUNT_WIDTH;
-
-const PAIR_BYTES: usize = PAIRS * PAIR_WIDTH;
-
-const LINK_BYTES: usize = LINKS * LINK_WIDTH;
 
 // Where the rows of each table start: one table behind the other.
 const CSD_ROWS: usize = 0;
 
-const SECURITY_ROWS: usize = CSD_ROWS + CSD_BYTES;
+const SECURITY_ROWS: usize = CSD_ROWS + CSDS * CSD_WIDTH;
 
-const ACCOUNT_ROWS: usize = SECURITY_ROWS + SECURITY_BYTES;
+const ACCOUNT_ROWS: usize = SECURITY_ROWS + SECURITIES * SECURITY_WIDTH;
 
-const PAIR_ROWS: usize = ACCOUNT_ROWS + ACCOUNT_BYTES;
+const PAIR_ROWS: usize = ACCOUNT_ROWS + ACCOUNTS * ACCOUNT_WIDTH;
 
-const LINK_ROWS: usize = PAIR_ROWS + PAIR_BYTES;
+const LINK_ROWS: usize = PAIR_ROWS + PAIRS * PAIR_WIDTH;
 
 // How many counts and bytes of rows there are.
 pub const COUNTS: usize = 5;
 
-pub const ROWS: usize = LINK_ROWS + LINK_BYTES;
+pub const ROWS: usize = LINK_ROWS + LINKS * LINK_WIDTH;
 
 // ---- reading: what is not there reads as 0
 
-// Where the part from `at` on starts in so many bytes: at their end, where `at` is behind it.
-fn within(at: usize, length: usize) -> usize
-    ensures { result ≡ min at length }
+// All rows of a table, which start at index `start`.
+fn read_table<T: FromBytes<W>, const W: usize, const N: usize>(
+    count: usize,
+    bytes: &[u8],
+    start: usize,
+) -> Table<T, N>
+    requires { start + N * W < 2 ^ 64 }
+    ensures { result ≡ record { count = count; rows = listed (λ i. T.read_at bytes.now (start + i * W)) N } }
 {
-    if at < length { at } else { length }
-}
-
-fn read_csds(count: usize, bytes: &[u8]) -> CsdTable
-    ensures { result ≡ csds_in count bytes.now }
-{
-    let bic = [0u8; BIC];
-    let mut rows = [Csd { external: 0, bic }; CSDS];
-    let mut i: usize = 0;
-    while i < CSDS {
-        let at = within(CSD_ROWS + i * CSD_WIDTH, bytes.len());
-        rows[i] = operands::decode_csd(&bytes[at..]);
-        i += 1;
-    }
-    CsdTable { count, rows }
-}
-
-fn read_securities(count: usize, bytes: &[u8]) -> SecurityTable
-    ensures { result ≡ securities_in count bytes.now }
-{
-    let isin = [0u8; ISIN];
-    let mut rows = [Security { isin }; SECURITIES];
-    let mut i: usize = 0;
-    while i < SECURITIES {
-        let at = within(SECURITY_ROWS + i * SECURITY_WIDTH, bytes.len());
-        rows[i] = operands::decode_security(&bytes[at..]);
-        i += 1;
-    }
-    SecurityTable { count, rows }
-}
-
-fn read_accounts(count: usize, bytes: &[u8]) -> AccountTable
-    ensures { result ≡ accounts_in count bytes.now }
-{
-    let mut rows = [Account { csd: 0, kind: 0 }; ACCOUNTS];
-    let mut i: usize = 0;
-    while i < ACCOUNTS {
-        let at = within(ACCOUNT_ROWS + i * ACCOUNT_WIDTH, bytes.len());
-        rows[i] = operands::decode_account(&bytes[at..]);
-        i += 1;
-    }
-    AccountTable { count, rows }
-}
-
-fn read_pairs(count: usize, bytes: &[u8]) -> PairTable
-    ensures { result ≡ pairs_in count bytes.now }
-{
-    let mut rows = [Pair {
-        investor: 0,
-        technical: 0,
-        mirror: 0,
-        omnibus: 0,
-        served: 0,
-    }; PAIRS];
-    let mut i: usize = 0;
-    while i < PAIRS {
-        let at = within(PAIR_ROWS + i * PAIR_WIDTH, bytes.len());
-        rows[i] = operands::decode_pair(&bytes[at..]);
-        i += 1;
-    }
-    PairTable { count, rows }
-}
-
-fn read_links(count: usize, bytes: &[u8]) -> LinkTable
-    ensures { result ≡ links_in count bytes.now }
-{
-    let mut rows = [Link {
-        security: 0,
-        kind: 0,
-        csd: 0,
-        technical: 0,
-        flag: 0,
-        account: 0,
-        first: 0,
-        last: 0,
-    }; LINKS];
-    let mut i: usize = 0;
-    while i < LINKS {
-        let at = within(LINK_ROWS + i * LINK_WIDTH, bytes.len());
-        rows[i] = operands::decode_link(&bytes[at..]);
-        i += 1;
-    }
-    LinkTable { count, rows }
+    let rows = array::from_fn(
+        |i: usize| -> T
+            requires { start + i * W < 2 ^ 64 }
+            ensures { result ≡ T.read_at bytes.entry.now (start + i * W) }
+        { decode(bytes, start + i * W) },
+    );
+    Table { count, rows }
 }
 
 fn count_at(counts: &[usize], i: usize) -> usize
     ensures { result ≡ get_or counts.now i 0 }
 {
-    if i < counts.len() { counts[i] } else { 0 }
+    counts.get(i).copied().unwrap_or(0)
 }
 
 pub fn read_directory(counts: &[usize], bytes: &[u8]) -> Directory
     ensures { result ≡ directory_in counts.now bytes.now }
 {
-    let csds = read_csds(count_at(counts, 0), bytes);
-    let securities = read_securities(count_at(counts, 1), bytes);
-    let accounts = read_accounts(count_at(counts, 2), bytes);
-    let pairs = read_pairs(count_at(counts, 3), bytes);
-    let links = read_links(count_at(counts, 4), bytes);
     Directory {
-        csds,
-        securities,
-        accounts,
-        pairs,
-        links,
+        csds: read_table(count_at(counts, 0), bytes, CSD_ROWS),
+        securities: read_table(count_at(counts, 1), bytes, SECURITY_ROWS),
+        accounts: read_table(count_at(counts, 2), bytes, ACCOUNT_ROWS),
+        pairs: read_table(count_at(counts, 3), bytes, PAIR_ROWS),
+        links: read_table(count_at(counts, 4), bytes, LINK_ROWS),
     }
 }
 
-// ---- writing: byte k of a row, and each table byte by byte; pairs and links row by row
+// ---- writing: the bytes of a row; a number of two bytes is big-endian
 
-fn high(x: u16) -> u8
-    ensures { result ≡ x / 256 }
-{
-    (x / 256) as u8
+trait ToBytes<const W: usize>: Copy {
+    ghost bytes: { Self → List ℕ };
+
+    // What a place behind the rows counts as.
+    ghost blank: { Self };
+
+    fn to_bytes(self) -> [u8; W]
+        ensures { result ≡ bytes self };
 }
 
-fn low(x: u16) -> u8
-    ensures { result ≡ x % 256 }
-{
-    (x % 256) as u8
-}
+impl ToBytes<CSD_WIDTH> for Csd {
+    ghost bytes = { csd_bytes };
 
-fn csd_byte(row: Csd, k: usize) -> u8
-    requires { k < csd_width }
-    ensures { result ≡ get_or (csd_bytes row) k 0 }
-{
-    if k == 0 {
-        return row.external;
-    }
-    row.bic[k - 1]
-}
+    ghost blank = { no_csd };
 
-fn security_byte(row: Security, k: usize) -> u8
-    requires { k < security_width }
-    ensures { result ≡ get_or (security_bytes row) k 0 }
-{
-    row.isin[k]
-}
-
-fn account_byte(row: Account, k: usize) -> u8
-    requires { k < account_width }
-    ensures { result ≡ get_or (account_bytes row) k 0 }
-{
-    if k == 0 {
-        return row.csd;
-    }
-    row.kind
-}
-
-fn step_byte(row: Step, k: usize) -> u8
-    requires { k < step_width }
-    ensures { result ≡ get_or (step_bytes row) k 0 }
-{
-    if k == 0 {
-        return row.csd;
-    }
-    if k == 1 {
-        return high(row.debited);
-    }
-    if k == 2 {
-        return low(row.debited);
-    }
-    if k == 3 {
-        return high(row.credited);
-    }
-    low(row.credited)
-}
-
-fn write_csds(bytes: &mut [u8], table: CsdTable)
-    requires { length bytes.old ≡ rows_length }
-    ensures { Put csds_start securities_start (bytes_of_csds table) bytes.old bytes.new }
-{
-    let mut j: usize = 0;
-    while j < CSD_BYTES {
-        bytes[CSD_ROWS + j] = csd_byte(table.rows[j / CSD_WIDTH], j % CSD_WIDTH);
-        j += 1;
+    fn to_bytes(self) -> [u8; CSD_WIDTH] {
+        let mut bytes = [self.external; CSD_WIDTH];
+        bytes[1..].copy_from_slice(&self.bic);
+        bytes
     }
 }
 
-fn write_securities(bytes: &mut [u8], table: SecurityTable)
-    requires { length bytes.old ≡ rows_length }
-    ensures { Put securities_start accounts_start (bytes_of_securities table) bytes.old bytes.new }
-{
-    let mut j: usize = 0;
-    while j < SECURITY_BYTES {
-        bytes[SECURITY_ROWS + j] = security_byte(
-            table.rows[j / SECURITY_WIDTH],
-            j % SECURITY_WIDTH,
-        );
-        j += 1;
+impl ToBytes<SECURITY_WIDTH> for Security {
+    ghost bytes = { security_bytes };
+
+    ghost blank = { no_security };
+
+    fn to_bytes(self) -> [u8; SECURITY_WIDTH] {
+        self.isin
     }
 }
 
-fn write_accounts(bytes: &mut [u8], table: AccountTable)
-    requires { length bytes.old ≡ rows_length }
-    ensures { Put accounts_start pairs_start (bytes_of_accounts table) bytes.old bytes.new }
-{
-    let mut j: usize = 0;
-    while j < ACCOUNT_BYTES {
-        bytes[ACCOUNT_ROWS + j] = account_byte(table.rows[j / ACCOUNT_WIDTH], j % ACCOUNT_WIDTH);
-        j += 1;
+impl ToBytes<ACCOUNT_WIDTH> for Account {
+    ghost bytes = { account_bytes };
+
+    ghost blank = { blank_account };
+
+    fn to_bytes(self) -> [u8; ACCOUNT_WIDTH] {
+        [self.csd, self.kind]
     }
 }
 
-// The bytes of a pair from index `at` on, without a test for each.
-fn put_pair(bytes: &mut [u8], at: usize, row: Pair)
-    requires { at + pair_width ≤ length bytes.old }
-    ensures { Put at (at + pair_width) (pair_bytes row) bytes.old bytes.new }
-{
-    bytes[at] = row.investor;
-    bytes[at + 1] = row.technical;
-    bytes[at + 2] = high(row.mirror);
-    bytes[at + 3] = low(row.mirror);
-    bytes[at + 4] = high(row.omnibus);
-    bytes[at + 5] = low(row.omnibus);
-    bytes[at + 6] = high(row.served);
-    bytes[at + 7] = low(row.served);
-}
+impl ToBytes<PAIR_WIDTH> for Pair {
+    ghost bytes = { pair_bytes };
 
-fn write_pairs(bytes: &mut [u8], table: PairTable)
-    requires { length bytes.old ≡ rows_length }
-    ensures { Put pairs_start links_start (bytes_of_pairs table) bytes.old bytes.new }
-{
-    let mut i: usize = 0;
-    while i < PAIRS {
-        put_pair(bytes, PAIR_ROWS + i * PAIR_WIDTH, table.rows[i]);
-        i += 1;
+    ghost blank = { blank_pair };
+
+    fn to_bytes(self) -> [u8; PAIR_WIDTH] {
+        let mirror = self.mirror.to_be_bytes();
+        let omnibus = self.omnibus.to_be_bytes();
+        let served = self.served.to_be_bytes();
+        [
+            self.investor,
+            self.technical,
+            mirror[0],
+            mirror[1],
+            omnibus[0],
+            omnibus[1],
+            served[0],
+            served[1],
+        ]
     }
 }
 
-// The bytes of a link likewise: of its days, "Both stand last in 05, 2 bytes each."
-fn put_link(bytes: &mut [u8], at: usize, row: Link)
-    requires { at + link_width ≤ length bytes.old }
-    ensures { Put at (at + link_width) (link_bytes row) bytes.old bytes.new }
-{
-    bytes[at] = row.security;
-    bytes[at + 1] = row.kind;
-    bytes[at + 2] = row.csd;
-    bytes[at + 3] = row.technical;
-    bytes[at + 4] = row.flag;
-    bytes[at + 5] = high(row.account);
-    bytes[at + 6] = low(row.account);
-    bytes[at + 7] = high(row.first);
-    bytes[at + 8] = low(row.first);
-    bytes[at + 9] = high(row.last);
-    bytes[at + 10] = low(row.last);
-}
+// Of its days, "Both stand last in 05, 2 bytes each."
+impl ToBytes<LINK_WIDTH> for Link {
+    ghost bytes = { link_bytes };
 
-fn write_links(bytes: &mut [u8], table: LinkTable)
-    requires { length bytes.old ≡ rows_length }
-    ensures { Put links_start rows_length (bytes_of_links table) bytes.old bytes.new }
-{
-    let mut i: usize = 0;
-    while i < LINKS {
-        put_link(bytes, LINK_ROWS + i * LINK_WIDTH, table.rows[i]);
-        i += 1;
+    ghost blank = { blank_link };
+
+    fn to_bytes(self) -> [u8; LINK_WIDTH] {
+        let account = self.account.to_be_bytes();
+        let first = self.first.to_be_bytes();
+        let last = self.last.to_be_bytes();
+        [
+            self.security,
+            self.kind,
+            self.csd,
+            self.technical,
+            self.flag,
+            account[0],
+            account[1],
+            first[0],
+            first[1],
+            last[0],
+            last[1],
+        ]
     }
 }
 
-fn count_of(directory: Directory, i: usize) -> usize
-    requires { i < counts_length }
-    ensures { result ≡ get_or (counts_of directory) i 0 }
-{
-    if i == 0 {
-        return directory.csds.count;
-    }
-    if i == 1 {
-        return directory.securities.count;
-    }
-    if i == 2 {
-        return directory.accounts.count;
-    }
-    if i == 3 {
-        return directory.pairs.count;
-    }
-    directory.links.count
-}
+// CSD 1, accounts 2 and 2.
+impl ToBytes<STEP_WIDTH> for Step {
+    ghost bytes = { step_bytes };
 
-fn put_counts(counts: &mut [usize], directory: Directory)
-    requires { length counts.old ≡ counts_length }
-    ensures { counts.new ≡ counts_of directory }
-{
-    let mut i: usize = 0;
-    while i < COUNTS {
-        counts[i] = count_of(directory, i);
-        i += 1;
+    ghost blank = { step 0 0 0 };
+
+    fn to_bytes(self) -> [u8; STEP_WIDTH] {
+        let debited = self.debited.to_be_bytes();
+        let credited = self.credited.to_be_bytes();
+        [self.csd, debited[0], debited[1], credited[0], credited[1]]
     }
 }
 
-fn put_rows(bytes: &mut [u8], directory: Directory)
-    requires { length bytes.old ≡ rows_length }
-    ensures { bytes.new ≡ bytes_of directory }
+// Rows from index `start` on. What stands before and behind them stays.
+fn put_rows<T: ToBytes<W>, const W: usize>(bytes: &mut [u8], start: usize, rows: &[T])
+    requires { start + length rows.now * W ≤ length bytes.old }
+    ensures { Put start (start + length rows.now * W) (bytes_in T.bytes T.blank W rows.now (length rows.now * W)) bytes.old bytes.new }
 {
-    write_csds(bytes, directory.csds);
-    write_securities(bytes, directory.securities);
-    write_accounts(bytes, directory.accounts);
-    write_pairs(bytes, directory.pairs);
-    write_links(bytes, directory.links);
-}
-
-// The steps that are counted, 5 bytes each: CSD 1, accounts 2 and 2. What stands behind them stays.
-fn put_steps(bytes: &mut [u8], steps: Steps)
-    requires { (steps.count ≤ step_limit) × (steps.count * step_width ≤ length bytes.old) }
-    ensures { bytes.new ≡ with_steps (step_rows steps) bytes.old }
-{
-    let end = steps.count * STEP_WIDTH;
-    let mut j: usize = 0;
-    while j < end {
-        bytes[j] = step_byte(steps.rows[j / STEP_WIDTH], j % STEP_WIDTH);
-        j += 1;
+    for (i, row) in rows.iter().enumerate() {
+        let at = start + i * W;
+        bytes[at..at + W].copy_from_slice(&row.to_bytes());
     }
 }
 
@@ -383,7 +198,13 @@ pub fn write_counts(counts: &mut [usize], directory: Directory)
     ensures { counts.new ≡ filled counts_length (counts_of directory) counts.old }
 {
     if counts.len() == COUNTS {
-        put_counts(counts, directory);
+        counts.copy_from_slice(&[
+            directory.csds.count,
+            directory.securities.count,
+            directory.accounts.count,
+            directory.pairs.count,
+            directory.links.count,
+        ]);
     }
 }
 
@@ -391,19 +212,21 @@ pub fn write_rows(bytes: &mut [u8], directory: Directory)
     ensures { bytes.new ≡ filled rows_length (bytes_of directory) bytes.old }
 {
     if bytes.len() == ROWS {
-        put_rows(bytes, directory);
+        put_rows(bytes, CSD_ROWS, &directory.csds.rows);
+        put_rows(bytes, SECURITY_ROWS, &directory.securities.rows);
+        put_rows(bytes, ACCOUNT_ROWS, &directory.accounts.rows);
+        put_rows(bytes, PAIR_ROWS, &directory.pairs.rows);
+        put_rows(bytes, LINK_ROWS, &directory.links.rows);
     }
 }
 
+// The steps that are counted, 5 bytes each. What stands behind them stays.
 pub fn write_steps(bytes: &mut [u8], steps: Steps)
     ensures { bytes.new ≡ steps_put steps bytes.old }
 {
-    let count = steps.count;
-    if STEPS < count {
-        return;
+    if let Some(rows) = steps.rows.get(..steps.count)
+        && rows.len() * STEP_WIDTH <= bytes.len()
+    {
+        put_rows(bytes, 0, rows);
     }
-    if bytes.len() < count * STEP_WIDTH {
-        return;
-    }
-    put_steps(bytes, steps);
 }

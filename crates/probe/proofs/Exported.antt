@@ -11,16 +11,13 @@ use lib.ListN.{length, take, drop, set, length-replicate}
 use lib.Seq.{take-append_seam}
 use Rattle.rules.specs.declared.Directory.{Directory}
 use Rattle.rules.specs.declared.Step.{Step}
-use Rattle.rules.specs.declared.Answer.{Answer}
-use Rattle.rules.specs.declared.Answer.TheVariants.{Refused}
+use Rattle.rules.specs.declared.answer.Answer.{Answer}
+use Rattle.rules.specs.declared.answer.Answer.TheVariants.{Refused}
 use Rattle.rules.specs.declared.Entered.{Entered}
 use Rattle.rules.specs.declared.Reply.{Reply}
 use Rattle.rules.specs.declared.Units.{Units}
 use Rattle.rules.specs.declared.Cents.{Cents}
-use Rattle.rules.specs.declared.SecurityTotal.{SecurityTotal}
-use Rattle.rules.specs.declared.SecurityTotal.TheVariants.{SumUnits, NoUnits}
-use Rattle.rules.specs.declared.CashTotal.{CashTotal}
-use Rattle.rules.specs.declared.CashTotal.TheVariants.{SumCents, NoCents}
+use Rattle.rules.specs.Booking.{SecurityTotal, SumUnits, NoUnits, CashTotal, SumCents, NoCents}
 use Rattle.rules.specs.Tests.{first_of}
 use Rattle.rules.specs.Chain.{step}
 use Rattle.rules.specs.Calls.{Halves, Outcome, desk, is_accepted, lent_steps, desk_security_total, desk_cash_total}

@@ -10,7 +10,7 @@ use mathlib.Core.Option.{some}
 use lib.Dec.{eqb, leb, ltb}
 use lib.ListN.{length, take}
 use lib.Seq.{length-take-le}
-use Rattle.rules.specs.declared.Answer.TheVariants.{Refused}
+use Rattle.rules.specs.declared.answer.Answer.TheVariants.{Refused}
 use Rattle.rules.specs.declared.Step.{Step}
 use Rattle.rules.specs.Tests.{Condition, ◌when◌, first_of}
 use Rattle.rules.specs.Calls.{Store, Call, settle, derive, outcome, lent_steps, desk_conditions, desk}

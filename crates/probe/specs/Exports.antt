@@ -2,10 +2,7 @@
 use Rattle.std.specs.Prelude.{ℕ, ◌/◌, ◌≡◌, Bool, true, ◌&&◌, ◌||◌, not, cond, List, [], ◌++◌, ℤ, eqb, length, set, take}
 use Rattle.rules.specs.declared.Step.{Step}
 use Rattle.rules.specs.declared.Entered.{Entered}
-use Rattle.rules.specs.declared.SecurityTotal.{SecurityTotal}
-use Rattle.rules.specs.declared.SecurityTotal.TheVariants.{SumUnits, NoUnits}
-use Rattle.rules.specs.declared.CashTotal.{CashTotal}
-use Rattle.rules.specs.declared.CashTotal.TheVariants.{SumCents, NoCents}
+use Rattle.rules.specs.Booking.{SecurityTotal, SumUnits, NoUnits, CashTotal, SumCents, NoCents}
 use Rattle.rules.specs.Tests.{first_of}
 use Rattle.rules.specs.Calls.{Store, Call, enter, move, pay, settle, derive, Outcome, outcome, desk_conditions, is_accepted, count_of}
 use Rattle.rules.specs.Calls.{desk_security_total, desk_cash_total}

@@ -3,6 +3,8 @@
 // byte and its operands, and then what the desk's call answers. On a refusal everything lent is as it was.
 ghost use Rattle.std.specs.Prelude.{◌≡◌, true, [], length, ◌+◌, ◌<◌};
 ghost use Rattle.std.proofs.Math.Option.{some};
+ghost use Rattle.rules.specs.declared.answer.Answer.TheVariants.{Refused};
+ghost use Rattle.rules.specs.Numbers.{number};
 ghost use Rattle.rules.specs.Calls.{desk};
 ghost use Rattle.rules.specs.Stream.{width_of, call_of, transcript, Printed};
 ghost use Rattle.rules.specs.Outcomes.{holding, settlement_on, derivation_on, blanks, reply_of};
@@ -15,12 +17,36 @@ ghost use Rattle.probe.specs.Exports.{Enters, Moves, Settles, Derives, TotalsUni
 
 use codes::{accepted, code_of, is_entry, is_move, read_refusal, width};
 use layout::{COUNTS, ROWS, STEP_WIDTH, read_directory, write_counts, write_rows, write_steps};
-use rules::{Answer, CashTotal, Directory, Entered, Reply, SecurityTotal};
-use wire::commands::ENTER_PAIR;
+use rules::{Answer, Directory, Entered, Refusal, Reply};
+use wire::commands::Command;
 use wire::operands;
 
 // Counts, rows or the place of a sum do not fit.
 const MISFIT: u64 = 1280;
+
+// A sum is given.
+const SUM: u64 = 1024;
+
+fn refused(refusal: Refusal) -> u64
+    ensures { result ≡ code_of (Refused (number refusal)) }
+{
+    code_of(Answer::Refused(u8::from(refusal)))
+}
+
+// The bytes that are asked for, as C hands them in.
+const ENTER_CSD: u8 = Command::EnterCsd as u8;
+
+const ENTER_SECURITY: u8 = Command::EnterSecurity as u8;
+
+const ENTER_ACCOUNT: u8 = Command::EnterAccount as u8;
+
+const ENTER_PAIR: u8 = Command::EnterPair as u8;
+
+const BRING_IN: u8 = Command::BringIn as u8;
+
+const TAKE_OUT: u8 = Command::TakeOut as u8;
+
+const PAY_IN: u8 = Command::PayIn as u8;
 
 // ---- 01 to 03, 05 and 0E
 
@@ -28,13 +54,13 @@ fn entry(directory: Directory, tag: u8, operands: &[u8]) -> Entered
     requires { (is_entry tag ≡ true) × (width_of tag ≡ some (length operands.now)) }
     ensures { result ≡ entered_by (desk (call_of tag operands.now) (holding directory [] [])) }
 {
-    if tag == 1 {
+    if tag == ENTER_CSD {
         return desk::enter_csd(directory, operands::decode_csd(operands));
     }
-    if tag == 2 {
+    if tag == ENTER_SECURITY {
         return desk::enter_security(directory, operands::decode_security(operands));
     }
-    if tag == 3 {
+    if tag == ENTER_ACCOUNT {
         return desk::enter_account(directory, operands::decode_account(operands));
     }
     if tag == ENTER_PAIR {
@@ -54,9 +80,8 @@ pub extern "C" fn fluzzam_enter(counts: &mut [usize], rows: &mut [u8], tag: u8, 
     if rows.len() != ROWS {
         return MISFIT;
     }
-    let number = read_refusal(is_entry(tag), tag, bytes);
-    if number != 0 {
-        return code_of(Answer::Refused(number));
+    if let Err(refusal) = read_refusal(is_entry(tag), tag, bytes) {
+        return refused(refusal);
     }
     let end = width(tag);
     let directory = read_directory(counts, rows);
@@ -84,20 +109,20 @@ fn movement(
         × (positions.new ≡ (desk (call_of tag operands.now) (holding directory positions.old cash.old)).store.positions)
         × (cash.new ≡ (desk (call_of tag operands.now) (holding directory positions.old cash.old)).store.cash) }
 {
-    if tag == 6 {
+    if tag == BRING_IN {
         let x = operands::decode_move(operands);
         return desk::bring_in(
             directory, positions, x.account, x.security, x.quantity, x.day,
         );
     }
-    if tag == 7 {
+    if tag == TAKE_OUT {
         let x = operands::decode_move(operands);
         return desk::take_out(
             directory, positions, x.account, x.security, x.quantity, x.day,
         );
     }
     let x = operands::decode_payment(operands);
-    if tag == 8 {
+    if tag == PAY_IN {
         return desk::pay_in(directory, cash, x.account, x.amount);
     }
     desk::pay_out(directory, cash, x.account, x.amount)
@@ -121,9 +146,8 @@ pub extern "C" fn fluzzam_move(
     if rows.len() != ROWS {
         return MISFIT;
     }
-    let number = read_refusal(is_move(tag), tag, bytes);
-    if number != 0 {
-        return code_of(Answer::Refused(number));
+    if let Err(refusal) = read_refusal(is_move(tag), tag, bytes) {
+        return refused(refusal);
     }
     let end = width(tag);
     let directory = read_directory(counts, rows);
@@ -208,7 +232,7 @@ fn settle(
     }
     let end = width(tag);
     if bytes.len() < end {
-        return code_of(Answer::Refused(2));
+        return refused(Refusal::CutShort);
     }
     let directory = read_directory(counts, rows);
     let lent = steps.len() / STEP_WIDTH;
@@ -229,7 +253,7 @@ fn derive(counts: &[usize], rows: &[u8], tag: u8, bytes: &[u8], steps: &mut [u8]
     }
     let end = width(tag);
     if bytes.len() < end {
-        return code_of(Answer::Refused(2));
+        return refused(Refusal::CutShort);
     }
     let directory = read_directory(counts, rows);
     let lent = steps.len() / STEP_WIDTH;
@@ -319,12 +343,11 @@ pub extern "C" fn fluzzam_security_total(
     }
     let directory = read_directory(counts, rows);
     match desk::security_total(directory, positions, security) {
-        SecurityTotal::SumUnits(x) => {
-            let value = x.0;
-            sum[0] = value;
-            1024
+        Ok(total) => {
+            sum[0] = total.0;
+            SUM
         }
-        SecurityTotal::NoUnits(number) => 768 + (number as u64),
+        Err(refusal) => refused(refusal),
     }
 }
 
@@ -337,12 +360,11 @@ pub extern "C" fn fluzzam_cash_total(cash: &[i64], sum: &mut [i64]) -> u64
         return MISFIT;
     }
     match desk::cash_total(cash) {
-        CashTotal::SumCents(x) => {
-            let value = x.0;
-            sum[0] = value;
-            1024
+        Ok(total) => {
+            sum[0] = total.0;
+            SUM
         }
-        CashTotal::NoCents(number) => 768 + (number as u64),
+        Err(refusal) => refused(refusal),
     }
 }
 

@@ -20,12 +20,13 @@ use Rattle.rules.specs.Demands.{with_row, no_rows}
 use Rattle.rules.proofs.Basics.{and_both, eqb_false}
 use Rattle.rules.proofs.Tables.{added_rows, empty_rows}
 use Rattle.index.specs.Index.{WholeTables}
-use Rattle.refusals.specs.Kept.{Kept, Keeps, refusal_in}
+use Rattle.refusals.specs.declared.kept.Kept.{Kept}
+use Rattle.refusals.specs.Kept.{nothing_kept, Keeps, refusal_in}
 use Rattle.entries.specs.Entered.{with_row_in}
 use Rattle.refusals.proofs.Refusing.{refusal_is}
 use Rattle.entries.proofs.Keeping.{keeps_grown}
 use Rattle.entries.proofs.Empty.{keeps_empty}
-use Rattle.reading.specs.Read.{read_rows, in_order, read_directory, nothing_kept, ReadingSounds}
+use Rattle.reading.specs.Read.{read_rows, in_order, read_directory, ReadingSounds}
 use Rattle.reading.proofs.Loops.{ended}
 
 -- ---- rows after rows by the rules: whether each is accepted after those before it, and all of them together

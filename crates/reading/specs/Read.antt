@@ -1,11 +1,11 @@
 -- A directory read into what is kept of one: its rows entered one after another, table by table, up to the first that is refused. Assumes nothing.
-use Rattle.std.specs.Prelude.{ℕ, zero, suc, ◌≡◌, Bool, true, false, cond, List, [], ◌∷◌, ◌++◌, map, replicate}
+use Rattle.std.specs.Prelude.{ℕ, zero, suc, ◌≡◌, Bool, true, false, cond, List, [], ◌∷◌, ◌++◌, map}
 use Rattle.rules.specs.declared.Directory.{Directory}
 use Rattle.rules.specs.Directory.{Rows, rows_of}
 use Rattle.rules.specs.Entries.{Row, csd_row, security_row, account_row, pair_row, link_row, within_limits, sound}
-use Rattle.index.specs.Index.{index_size, WholeTables}
-use Rattle.identifiers.specs.Names.{names_size}
-use Rattle.refusals.specs.Kept.{Kept, Keeps, refusal_in}
+use Rattle.index.specs.Index.{WholeTables}
+use Rattle.refusals.specs.declared.kept.Kept.{Kept}
+use Rattle.refusals.specs.Kept.{nothing_kept, Keeps, refusal_in}
 use Rattle.entries.specs.Entered.{with_row_in}
 
 -- Whether every row was accepted, and what is kept after the last that was.
@@ -31,23 +31,10 @@ in_order r = map csd_row r.csds ++ (map security_row r.securities ++ (map accoun
 unfoldable pub read_directory : Directory → Kept → Reading
 read_directory d k = cond (within_limits d) (read_rows (in_order (rows_of d)) k) (record { accepted = false; kept = k })
 
--- what two lists keep
-abbrev pub kept : List ℕ → List ℕ → Kept
-kept l b = record { numbers = l; names = b }
-
--- the code has read: its answer, and both lists after it
-pub record Reads (x : Reading) (r : Bool) (numbers names : List ℕ) : Type 0 where
+-- the code has read: its answer, and what is kept after it
+pub record Reads (x : Reading) (r : Bool) (k : Kept) : Type 0 where
   pub answer : r ≡ x.accepted
-  pub numbers_left : numbers ≡ x.kept.numbers
-  pub names_left : names ≡ x.kept.names
-
--- it has read rows that have no identifier, whatever the identifiers are
-abbrev pub ReadsNumbers : List Row → List ℕ → Bool → List ℕ → Type 0
-ReadsNumbers xs before r after = (names : List ℕ) → Reads (read_rows xs (kept before names)) r after names
-
--- nothing is kept yet
-unfoldable pub nothing_kept : Kept
-nothing_kept = record { numbers = replicate index_size 0; names = replicate names_size 0 }
+  pub left : k ≡ x.kept
 
 -- Reading a directory whose tables are whole, as every directory of the code is, is the test of its soundness, and what is then kept is its own (proved in
 -- proofs/Sounds).

@@ -1,124 +1,31 @@
-// A directory read into an index: each row is judged and added as an entry is, in the order of soundness. Where a row is refused the directory is not sound.
+// A directory read into what is kept of one: each row is judged and added as an entry is, in the order of soundness. Where a row is refused the directory is not
+// sound.
 #![tactic(auto)]
 
-ghost use Rattle.std.specs.Prelude.{◌≡◌, map};
-ghost use Rattle.rules.specs.Directory.{csd_rows, security_rows, account_rows, pair_rows, link_rows};
-ghost use Rattle.rules.specs.Entries.{csd_row, security_row, account_row, pair_row, link_row, within_limits};
-ghost use Rattle.reading.specs.Read.{kept, Reads, ReadsNumbers, read_rows, read_directory};
+ghost use Rattle.std.specs.Prelude.{◌≡◌, map, take};
+ghost use Rattle.std.specs.Result.{is_ok};
+ghost use Rattle.rules.specs.Directory.{rows_of};
+ghost use Rattle.rules.specs.Entries.{within_limits};
+ghost use Rattle.reading.specs.Read.{Reads, in_order, read_rows, read_directory};
 
-use entries::entries::{add_account, add_csd, add_link, add_pair, add_security};
-use identifiers::names::NAMES;
-use index::places::INDEX;
-use refusals::{account_refusal, csd_refusal, link_refusal, pair_refusal, security_refusal};
-use rules::{
-    ACCOUNTS, AccountTable, CSDS, CsdTable, Directory, LINKS, LinkTable, PAIRS, PairTable,
-    SECURITIES, SecurityTable,
-};
+use entries::entries::{Keep, enter};
+use refusals::Kept;
+use rules::{ACCOUNTS, CSDS, Directory, LINKS, PAIRS, Refusal, SECURITIES};
 
-// The CSDs.
-fn read_csds(csds: CsdTable, index: &mut [u16; INDEX], names: &mut [u8; NAMES]) -> bool
-    ensures { Reads (read_rows (map csd_row (csd_rows csds)) (kept index.old names.old))
-        result index.new names.new }
+// The first `count` rows of a table, up to the first that is refused.
+fn read_rows<R: Keep>(rows: &[R], count: usize, kept: &mut Kept) -> Result<(), Refusal>
+    ensures { Reads (read_rows (map R.as_row (take count rows.now)) kept.old) (is_ok result) kept.new }
 {
-    let mut i: usize = 0;
-    while i < CSDS {
-        if csds.count <= i {
-            return true;
-        }
-        let row = csds.rows[i];
-        if csd_refusal(index, names, row) != 0 {
-            return false;
-        }
-        add_csd(index, names, row);
-        i += 1;
+    let used = count.min(rows.len());
+    for row in &rows[..used] {
+        enter(kept, *row)?;
     }
-    true
-}
-
-// The securities.
-fn read_securities(
-    securities: SecurityTable,
-    index: &mut [u16; INDEX],
-    names: &mut [u8; NAMES],
-) -> bool
-    ensures { Reads (read_rows (map security_row (security_rows securities)) (kept index.old names.old))
-        result index.new names.new }
-{
-    let mut i: usize = 0;
-    while i < SECURITIES {
-        if securities.count <= i {
-            return true;
-        }
-        let row = securities.rows[i];
-        if security_refusal(index, names, row) != 0 {
-            return false;
-        }
-        add_security(index, names, row);
-        i += 1;
-    }
-    true
-}
-
-// The accounts.
-fn read_accounts(accounts: AccountTable, index: &mut [u16; INDEX]) -> bool
-    ensures { ReadsNumbers (map account_row (account_rows accounts)) index.old result index.new }
-{
-    let mut i: usize = 0;
-    while i < ACCOUNTS {
-        if accounts.count <= i {
-            return true;
-        }
-        let row = accounts.rows[i];
-        if account_refusal(index, row) != 0 {
-            return false;
-        }
-        add_account(index, row);
-        i += 1;
-    }
-    true
-}
-
-// The pairs.
-fn read_pairs(pairs: PairTable, index: &mut [u16; INDEX]) -> bool
-    ensures { ReadsNumbers (map pair_row (pair_rows pairs)) index.old result index.new }
-{
-    let mut i: usize = 0;
-    while i < PAIRS {
-        if pairs.count <= i {
-            return true;
-        }
-        let row = pairs.rows[i];
-        if pair_refusal(index, row) != 0 {
-            return false;
-        }
-        add_pair(index, row);
-        i += 1;
-    }
-    true
-}
-
-// The links.
-fn read_links(links: LinkTable, index: &mut [u16; INDEX]) -> bool
-    ensures { ReadsNumbers (map link_row (link_rows links)) index.old result index.new }
-{
-    let mut i: usize = 0;
-    while i < LINKS {
-        if links.count <= i {
-            return true;
-        }
-        let row = links.rows[i];
-        if link_refusal(index, row) != 0 {
-            return false;
-        }
-        add_link(index, row);
-        i += 1;
-    }
-    true
+    Ok(())
 }
 
 // "counts are within limits"
-fn within_limits(directory: Directory) -> bool
-    ensures { result ≡ within_limits directory }
+fn within_limits(directory: &Directory) -> bool
+    ensures { result ≡ within_limits directory.now }
 {
     let csds = directory.csds.count <= CSDS;
     let securities = directory.securities.count <= SECURITIES;
@@ -128,25 +35,24 @@ fn within_limits(directory: Directory) -> bool
     csds & (securities & (accounts & (pairs & links)))
 }
 
-// The whole directory, table by table. Read into lists of zeros, it is sound exactly if the answer is true, and the lists are then its index and its
-// identifiers (specs/Read, ReadingSounds).
-pub fn read(directory: Directory, index: &mut [u16; INDEX], names: &mut [u8; NAMES]) -> bool
-    ensures { Reads (read_directory directory (kept index.old names.old)) result index.new names.new }
+// The rows in use of the tables, one table behind the other.
+fn read_tables(directory: &Directory, kept: &mut Kept) -> Result<(), Refusal>
+    ensures { Reads (read_rows (in_order (rows_of directory.now)) kept.old) (is_ok result) kept.new }
+{
+    read_rows(&directory.csds.rows, directory.csds.count, kept)?;
+    read_rows(&directory.securities.rows, directory.securities.count, kept)?;
+    read_rows(&directory.accounts.rows, directory.accounts.count, kept)?;
+    read_rows(&directory.pairs.rows, directory.pairs.count, kept)?;
+    read_rows(&directory.links.rows, directory.links.count, kept)
+}
+
+// The whole directory. Read into what is kept of the empty one, it is sound exactly if the answer is true, and what is kept is then its own (specs/Read,
+// ReadingSounds).
+pub fn read(directory: &Directory, kept: &mut Kept) -> bool
+    ensures { Reads (read_directory directory.now kept.old) result kept.new }
 {
     if !within_limits(directory) {
         return false;
     }
-    if !read_csds(directory.csds, index, names) {
-        return false;
-    }
-    if !read_securities(directory.securities, index, names) {
-        return false;
-    }
-    if !read_accounts(directory.accounts, index) {
-        return false;
-    }
-    if !read_pairs(directory.pairs, index) {
-        return false;
-    }
-    read_links(directory.links, index)
+    read_tables(directory, kept).is_ok()
 }

@@ -2,24 +2,25 @@
 // is told from one that fits. What could not be read is not run, and what failed is said in a line on standard error.
 #![tactic(auto)]
 
-use descriptors::input::{Input, read_input};
+use descriptors::input::read_input;
 use descriptors::output::write_whole;
 
-fn main(rt: HostRuntime) {
+// An error is the line that says what failed.
+fn transcribe(rt: &HostRuntime) -> Result<(), &'static str> {
     let mut input = [0u8; stream::INPUT + 1];
     let mut output = [0u8; stream::ROOM];
-    let Input::Whole(n) = read_input(&mut rt.stdin(), &mut input) else {
-        write_whole(
-            &mut rt.stderr(),
-            b"realign: standard input could not be read\n",
-        );
-        return;
-    };
+    let n = read_input(&mut rt.stdin(), &mut input).map_err(
+        |_| "realign: standard input could not be read\n",
+    )?;
     let end = stream::run(&input[..n], &mut output);
-    if !write_whole(&mut rt.stdout(), &output[..end]) {
-        write_whole(
-            &mut rt.stderr(),
-            b"realign: standard output could not be written\n",
-        );
+    write_whole(&mut rt.stdout(), &output[..end]).map_err(
+        |_| "realign: standard output could not be written\n",
+    )
+}
+
+fn main(rt: HostRuntime) {
+    if let Err(line) = transcribe(&rt) {
+        // Written as the transcript is: an interrupted call is made again. Where it fails too, nothing is left to say.
+        let _ = write_whole(&mut rt.stderr(), line.as_bytes());
     }
 }

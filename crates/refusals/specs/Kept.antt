@@ -1,5 +1,6 @@
 -- What is kept of a directory, and what refuses a row by it. Assumes nothing.
-use Rattle.std.specs.Prelude.{ℕ, List, leb}
+use Rattle.std.specs.Prelude.{ℕ, List, leb, replicate}
+pub use Rattle.refusals.specs.declared.kept.Kept.{Kept}
 use Rattle.rules.specs.declared.Csd.{Csd}
 use Rattle.rules.specs.declared.Security.{Security}
 use Rattle.rules.specs.declared.Account.{Account}
@@ -9,18 +10,17 @@ use Rattle.rules.specs.declared.Directory.{Directory}
 use Rattle.rules.specs.Tests.{first_of}
 use Rattle.rules.specs.Directory.{rows_of, csd_limit, security_limit, link_limit}
 use Rattle.rules.specs.Entries.{Row, csd_row, security_row, account_row, pair_row, link_row, csd_conditions, security_conditions, account_conditions, pair_conditions, link_conditions}
-use Rattle.index.specs.Index.{Indexed, csd_count, security_count, link_count}
+use Rattle.index.specs.Index.{index_size, Indexed, csd_count, security_count, link_count}
 use Rattle.index.specs.Asked.{read, asked}
-use Rattle.identifiers.specs.Names.{bic_in, isin_in, Named}
-
--- What is kept of a directory: the numbers of its index, and the bytes of its identifiers.
-pub record Kept : Type 0 where
-  pub numbers : List ℕ
-  pub names : List ℕ
+use Rattle.identifiers.specs.Names.{names_size, bic_in, isin_in, Named}
 
 -- by the numbers l and the bytes b
 abbrev pub kept_in : List ℕ → List ℕ → Kept
 kept_in l b = record { numbers = l; names = b }
+
+-- nothing is kept yet
+unfoldable pub nothing_kept : Kept
+nothing_kept = record { numbers = replicate index_size 0; names = replicate names_size 0 }
 
 -- it is kept of this sound directory
 pub record Keeps (k : Kept) (d : Directory) : Type 0 where

@@ -1,4 +1,5 @@
 pub mod Basics
+pub mod Numbered
 pub mod Int
 pub mod Sums
 pub mod Several

@@ -8,7 +8,8 @@ use native.Mathlib.Omega.{arith}
 use lib.IntN.{ℤ}
 use lib.Dec.{eqb}
 use lib.ListN.{length}
-use Rattle.rules.specs.Types.{Account, Directory, Units, Cents, SumUnits, SumCents}
+use Rattle.rules.specs.Types.{Account, Directory, Units, Cents}
+use Rattle.rules.specs.Booking.{SumUnits, SumCents}
 use Rattle.rules.specs.Tests.{is_row, Condition, first_of}
 use Rattle.rules.specs.Directory.{Rows, rows_of, rows_on, account_limit, is_kind}
 use Rattle.rules.specs.Entries.{Row, csd_row, security_row, account_row, pair_row, link_row, sound}

@@ -1,6 +1,7 @@
 -- The calls of documents 01 and 02: what refuses them, what they answer and leave, and a list of them run from the empty store.
 use Rattle.std.specs.Prelude.{ℕ, zero, suc, Bool, true, false, not, ◌||◌, cond, List, [], ◌∷◌, ◌++◌, ℤ, pos, ltb, eqb, length, drop}
-use Rattle.rules.specs.Types.{Directory, Half, SidedHalf, Step, Answer, Accepted, Booked, Chained, Refused, SecurityTotal, SumUnits, NoUnits, CashTotal, SumCents, NoCents}
+use Rattle.rules.specs.Types.{Directory, Half, SidedHalf, Step, Answer, Accepted, Booked, Chained, Refused}
+use Rattle.rules.specs.Booking.{SecurityTotal, SumUnits, NoUnits, CashTotal, SumCents, NoCents}
 use Rattle.rules.specs.Tests.{Condition, ◌when◌, first_of}
 use Rattle.rules.specs.Directory.{rows_of, rows_on}
 use Rattle.rules.specs.Entries.{Row, row_conditions, add_row, empty_directory, sound}

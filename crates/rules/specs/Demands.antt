@@ -1,7 +1,8 @@
 -- The customer's three demands as claims about the definitions. Each is proved in proofs/; a reader holds them against his words.
 use Rattle.std.specs.Prelude.{◌≡◌, ◌≢◌, Bool, true, false, cond, ℕ, ◌≤◌, ◌<◌, ℤ, pos, neg_ℤ, ◌+ℤ◌, ◌-ℤ◌, ◌≤ℤ◌, eqb, length}
 use mathlib.Core.List.{List, [], ◌∷◌, ◌++◌, Memᴰ}
-use Rattle.rules.specs.Types.{Account, Pair, Directory, Half, Step, Answer, Accepted, Booked, Chained, Refused, SumUnits, SumCents}
+use Rattle.rules.specs.Types.{Account, Pair, Directory, Half, Step, Answer, Accepted, Booked, Chained, Refused}
+use Rattle.rules.specs.Booking.{SumUnits, SumCents}
 use Rattle.rules.specs.Directory.{Rows, rows_of, on_day, rows_on, is_kind, in_books, no_account, account_limit, security_limit}
 use Rattle.rules.specs.Entries.{Row, csd_row, security_row, account_row, pair_row, link_row, add_row, Sized}
 use Rattle.rules.specs.Lookups.{home_of}

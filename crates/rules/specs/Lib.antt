@@ -1,4 +1,5 @@
 pub mod Types
+pub mod Numbers
 pub mod Tests
 pub mod Identifiers
 pub mod Directory

@@ -1,7 +1,7 @@
 -- What each of the desk's functions answers and leaves: the outcome of the rules' call on what the function is handed. A list that a
 -- function is not handed is empty here; proofs/Logs.antt says that it counts for nothing. Assumes nothing.
 use Rattle.std.specs.Prelude.{ℕ, List, [], ℤ, length, replicate, take}
-use Rattle.rules.specs.Types.{Directory, Step, Steps, Reply, Entered}
+use Rattle.rules.specs.Types.{Directory, Step, Table, Reply, Entered}
 use Rattle.rules.specs.Entries.{Row}
 use Rattle.rules.specs.Chain.{step, step_limit}
 use Rattle.rules.specs.Booking.{Way}
@@ -40,6 +40,10 @@ entered_on d x = record { answer = (entry_on d x).answer; directory = (entry_on 
 -- a step list of which the length alone counts
 abbrev pub blanks : ℕ → List Step
 blanks n = replicate n (step 0 0 0)
+
+-- steps by value: at most as many as a chain has
+abbrev pub Steps : Type 0
+Steps = Table Step step_limit
 
 -- steps by value: their number, and their rows on 16 blank ones
 abbrev pub by_value : List Step → Steps

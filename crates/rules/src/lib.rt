@@ -1,7 +1,11 @@
 // The types that every crate shares. Their meaning is document 01's, written in specs/.
 #![tactic(auto)]
 
-pub mod refusal; // refusal.rt: the numbers of the refusals
+pub mod refusal; // refusal.rt: the refusals and their numbers
+pub mod answer; // answer.rt: what a call answers
+
+pub use answer::Answer;
+pub use refusal::Refusal;
 
 // Rows that each table holds at most.
 pub const CSDS: usize = 32;
@@ -90,36 +94,22 @@ pub struct Link {
     pub last: u16,
 }
 
-// The tables: the first `count` rows of each are in use.
+// A table: the first `count` of its N rows are in use.
 #[derive(Clone, Copy)]
-pub struct CsdTable {
+pub struct Table<T, const N: usize> {
     pub count: usize,
-    pub rows: [Csd; CSDS],
+    pub rows: [T; N],
 }
 
-#[derive(Clone, Copy)]
-pub struct SecurityTable {
-    pub count: usize,
-    pub rows: [Security; SECURITIES],
-}
+pub type CsdTable = Table<Csd, CSDS>;
 
-#[derive(Clone, Copy)]
-pub struct AccountTable {
-    pub count: usize,
-    pub rows: [Account; ACCOUNTS],
-}
+pub type SecurityTable = Table<Security, SECURITIES>;
 
-#[derive(Clone, Copy)]
-pub struct PairTable {
-    pub count: usize,
-    pub rows: [Pair; PAIRS],
-}
+pub type AccountTable = Table<Account, ACCOUNTS>;
 
-#[derive(Clone, Copy)]
-pub struct LinkTable {
-    pub count: usize,
-    pub rows: [Link; LINKS],
-}
+pub type PairTable = Table<Pair, PAIRS>;
+
+pub type LinkTable = Table<Link, LINKS>;
 
 #[derive(Clone, Copy)]
 pub struct Directory {
@@ -153,7 +143,7 @@ pub struct SidedHalf {
 }
 
 // One step of a chain: the CSD, the account debited and the account credited in its books.
-#[derive(Clone, Copy)]
+#[derive(Clone, Copy, Debug, PartialEq, Eq)]
 pub struct Step {
     pub csd: u8,
     pub debited: u16,
@@ -191,37 +181,6 @@ pub enum Join {
     Externals,
 }
 
-// The two ends of the default walks judged together: a chain of two issuers or of two external ends, or the refusal.
-#[derive(Clone, Copy)]
-pub enum Verdict {
-    TwoIssuers,
-    TwoExternals,
-    Apart(u8),
-}
-
-// What a call answers. Booked and Chained carry the number of steps, Refused the number of the documents.
-#[derive(Clone, Copy)]
-pub enum Answer {
-    Accepted,
-    Booked(usize),
-    Chained(usize),
-    Refused(u8),
-}
-
-// A sum of positions, or the refusal.
-#[derive(Clone, Copy)]
-pub enum SecurityTotal {
-    SumUnits(Units),
-    NoUnits(u8),
-}
-
-// A sum of cash, or the refusal.
-#[derive(Clone, Copy)]
-pub enum CashTotal {
-    SumCents(Cents),
-    NoCents(u8),
-}
-
 // What an entry answers, and the directory after it.
 #[derive(Clone, Copy)]
 pub struct Entered {
@@ -229,12 +188,8 @@ pub struct Entered {
     pub directory: Directory,
 }
 
-// Steps by value: the first `count` rows are in use.
-#[derive(Clone, Copy)]
-pub struct Steps {
-    pub count: usize,
-    pub rows: [Step; STEPS],
-}
+// Steps by value.
+pub type Steps = Table<Step, STEPS>;
 
 // What a derivation or settlement answers, with its steps by value.
 #[derive(Clone, Copy)]

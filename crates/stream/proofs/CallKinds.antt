@@ -1,7 +1,7 @@
 -- The calls of the commands by kind and by byte, and the widths of their operands.
 use mathlib.Core.Path.{◌≡◌, refl, sym, ap, ◌∙◌}
 use mathlib.Core.Logic.{◌≢◌}
-use mathlib.Core.Bool.{Bool, true, false, ◌&&◌, ◌||◌, cond}
+use mathlib.Core.Bool.{Bool, true, false, ◌&&◌, cond}
 use mathlib.Core.List.{List}
 use mathlib.Core.Option.{Option, none, some}
 use Prim.Native.Nat.{ℕ, zero, suc, ◌≤◌, ◌<◌}
@@ -13,12 +13,9 @@ use Rattle.rules.specs.Entries.{Row}
 use Rattle.rules.specs.Booking.{Way, position_count, cash_count}
 use Rattle.rules.specs.Calls.{Halves, Store, Call, enter, move, pay, settle, derive, misfit}
 use Rattle.rules.specs.Stream.{widths, width_of, call_of, program_steps}
-use Rattle.rules.proofs.Basics.{and_both, eqb_is, eqb-true, eqb_not, leb_is}
+use Rattle.rules.proofs.Basics.{and_both, eqb_is, eqb-true, leb_is}
 use Rattle.rules.proofs.Running.{Ready}
-use Rattle.booking.specs.Moves.{way_of}
-use Rattle.wire.specs.Operands.{move_in, payment_in, halves_in, day_in}
-use Rattle.wire.proofs.Decoded.{bring_in_call, take_out_call, pay_in_call, pay_out_call, known_tag}
-use Rattle.stream.specs.Obeyed.{instruction}
+use Rattle.wire.proofs.Decoded.{known_tag}
 
 -- ---- kinds
 
@@ -66,30 +63,6 @@ fits st ready tag o =
 
     paid : eqb (length st.cash) cash_count ≡ true
     paid = eqb-true (length st.cash) cash_count ready.cash
-
--- ---- the calls of 06 to 0D
-
-module _ (tag : ℕ) (o : List ℕ) where
-  -- 06 and 07
-  pub move_call : 6 ≤ tag → tag < 8 → call_of tag o ≡ move (way_of (eqb tag 6)) (move_in o).account (move_in o).security (move_in o).quantity (move_in o).day
-  move_call l h = go (eqb tag 6) refl
-    where
-      go : (b : Bool) → eqb tag 6 ≡ b → call_of tag o ≡ move (way_of b) (move_in o).account (move_in o).security (move_in o).quantity (move_in o).day
-      go true e = bring_in_call tag o (eqb_is tag 6 e)
-      go false e = let n : tag ≢ 6 = eqb_not tag 6 e in take_out_call tag o (omega arith)
-
-  -- 08 and 09
-  pub pay_call : 8 ≤ tag → tag < 10 → call_of tag o ≡ pay (way_of (eqb tag 8)) (payment_in o).account (payment_in o).amount
-  pay_call l h = go (eqb tag 8) refl
-    where
-      go : (b : Bool) → eqb tag 8 ≡ b → call_of tag o ≡ pay (way_of b) (payment_in o).account (payment_in o).amount
-      go true e = pay_in_call tag o (eqb_is tag 8 e)
-      go false e = let n : tag ≢ 8 = eqb_not tag 8 e in pay_out_call tag o (omega arith)
-
-  -- 0A to 0D
-  pub pair_call : TwoHalves tag → call_of tag o ≡ instruction (eqb tag 10 || eqb tag 12) (halves_in tag o) (day_in tag o)
-  unfolding call_of
-  pair_call h = each_of_two (λ t. call_of t o ≡ instruction (eqb t 10 || eqb t 12) (halves_in t o) (day_in t o)) tag h refl refl refl refl
 
 -- ---- widths
 

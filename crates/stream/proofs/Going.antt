@@ -7,14 +7,14 @@ use native.Mathlib.Numerals.{add-one}
 use native.Mathlib.Omega.{arith}
 use mathlib.Core.List.{List, [], ◌∷◌, ◌++◌, append_assoc}
 use lib.IntN.{ℤ}
-use lib.ListN.{length, take, drop, replicate, length-append, length-take, length-replicate, take-append-drop}
+use lib.ListN.{length, take, drop, length-append, length-take, length-replicate, take-append-drop}
 use lib.Seq.{length-take-le}
 use borrow.Author.Tests.{lt-ltb, le-ltb}
 use Rattle.rules.specs.declared.Account.{Account}
 use Rattle.rules.specs.declared.Security.{Security}
 use Rattle.rules.specs.Directory.{rows_of, rows_on, security_limit, is_kind}
 use Rattle.rules.specs.Booking.{position_count, cash_count, participant_sum, cash_sum}
-use Rattle.rules.specs.Calls.{Store, zeros, empty_store}
+use Rattle.rules.specs.Calls.{Store, empty_store}
 use Rattle.rules.specs.Stream.{bytes, total_line, total_lines, cash_line, ending, lines_from, input_limit, transcript}
 use Rattle.rules.proofs.Facts.{Facts}
 use Rattle.rules.proofs.Soundness.{sound_gives}
@@ -22,12 +22,11 @@ use Rattle.rules.proofs.Running.{Ready, empty_ready}
 use Rattle.text.specs.Appended.{Appended}
 use Rattle.text.proofs.Appends.{Fitted, fits, further, named}
 use Rattle.text.proofs.Lengths.{short_total, short_cash}
-use Rattle.index.specs.Index.{index_size}
-use Rattle.identifiers.specs.Names.{names_size}
+use Rattle.refusals.specs.Kept.{nothing_kept}
 use Rattle.entries.proofs.Empty.{keeps_empty}
 use Rattle.chain.specs.StepList.{step_numbers}
 use Rattle.stream.specs.declared.turns.Turn.{Turn}
-use Rattle.stream.specs.Obeyed.{Held, held, Holds}
+use Rattle.stream.specs.Obeyed.{Held, nothing_held, Holds}
 use Rattle.stream.specs.Turns.{Told, told, Takes}
 use Rattle.ending.specs.Ending.{ending_in}
 use Rattle.rules.specs.Stream.{room, printed, printed_length, Printed}
@@ -159,9 +158,8 @@ pub record Running (s before out : List ℕ) (h : Held) (at number end : ℕ) : 
   pub holds : Holds h store
   pub going : Going s before out store at number end
 
-pub running_start : (s out : List ℕ)
-    → Running s out out (held (replicate index_size 0) (replicate names_size 0) (zeros position_count) (zeros cash_count) (replicate step_numbers 0)) 0 0 0
-unfolding empty_store
+pub running_start : (s out : List ℕ) → Running s out out nothing_held 0 0 0
+unfolding empty_store nothing_held nothing_kept
 running_start s out =
     record {
       store = empty_store;

@@ -37,13 +37,13 @@ whole table n end s e l h = sym (take_all end s l) ∙ (h ∙ ap table e)
 
 -- ---- one, two and three digits, with the byte behind them
 
-one_ends : (b n : ℕ) → n < 10 → last n ∷ (b ∷ []) ≡ decimal n ++ (b ∷ [])
+pub one_ends : (b n : ℕ) → n < 10 → last n ∷ (b ∷ []) ≡ decimal n ++ (b ∷ [])
 one_ends b n h = ap (λ (s : List ℕ). s ++ (b ∷ [])) (one_is n (last n) refl h)
 
-two_end : (b n : ℕ) → 10 ≤ n → n < 100 → last (n / 10) ∷ (last n ∷ (b ∷ [])) ≡ decimal n ++ (b ∷ [])
+pub two_end : (b n : ℕ) → 10 ≤ n → n < 100 → last (n / 10) ∷ (last n ∷ (b ∷ [])) ≡ decimal n ++ (b ∷ [])
 two_end b n h l = ap (λ (s : List ℕ). s ++ (b ∷ [])) (two_are n _ _ refl refl h l)
 
-three_end : (b n : ℕ) → 100 ≤ n → n < 1_000 → word_of b n ≡ decimal n ++ (b ∷ [])
+pub three_end : (b n : ℕ) → 100 ≤ n → n < 1_000 → word_of b n ≡ decimal n ++ (b ∷ [])
 three_end b n h l = ap (λ (s : List ℕ). s ++ (b ∷ [])) (three_are n _ _ _ refl refl refl h l)
 
 -- how many bytes they are
@@ -90,30 +90,15 @@ module _ (words : List ℕ) (b : ℕ) (e : words ≡ number_words b) where
       → get_or words (4 * n) 0 ∷ (get_or words (4 * n + 1) 0 ∷ (get_or words (4 * n + 2) 0 ∷ (get_or words (4 * n + 3) 0 ∷ []))) ≡ word_of b n
   word_is n h = rw (first n h, byte n 1 h (omega arith), byte n 2 h (omega arith), byte n 3 h (omega arith))
 
-  -- ---- a number's text is the end of its word
-
-  pub one_digit : (n : ℕ) → n < 10 → get_or words (4 * n + 2) 0 ∷ (get_or words (4 * n + 3) 0 ∷ []) ≡ decimal n ++ (b ∷ [])
-  one_digit n h = rw (byte n 2 (omega arith) (omega arith), byte n 3 (omega arith) (omega arith)) (one_ends b n h)
-
-  pub two_digits : (n : ℕ) → 10 ≤ n → n < 100
-      → get_or words (4 * n + 1) 0 ∷ (get_or words (4 * n + 2) 0 ∷ (get_or words (4 * n + 3) 0 ∷ [])) ≡ decimal n ++ (b ∷ [])
-  two_digits n h l =
-      rw (byte n 1 (omega arith) (omega arith), byte n 2 (omega arith) (omega arith), byte n 3 (omega arith) (omega arith)) (two_end b n h l)
-
-  pub three_digits : (n : ℕ) → 100 ≤ n → n < 1_000
-      → get_or words (4 * n) 0 ∷ (get_or words (4 * n + 1) 0 ∷ (get_or words (4 * n + 2) 0 ∷ (get_or words (4 * n + 3) 0 ∷ []))) ≡ decimal n ++ (b ∷ [])
-  three_digits n h l = word_is n l ∙ three_end b n h l
-
-  -- above three digits, the word of the last three stands behind the others
-  pub six_digits : (n : ℕ) → 1_000 ≤ n → n < 1_000_000
-      → decimal (n / 1_000) ++ (get_or words (4 * (n % 1_000)) 0 ∷ (get_or words (4 * (n % 1_000) + 1) 0 ∷ (get_or words (4 * (n % 1_000) + 2) 0 ∷ (get_or words (4 * (n % 1_000) + 3) 0 ∷ [])))) ≡ decimal n ++ (b ∷ [])
-  six_digits n h l =
-      let p : n % 1_000 / 100 % 10 ≡ n / 100 % 10 = omega arith in
-      let q : n % 1_000 / 10 % 10 ≡ n / 10 % 10 = omega arith in
-      let r : n % 1_000 % 10 ≡ n % 10 = omega arith in
-      rw (word_is (n % 1_000) (omega arith), p, q, r)
-      (sym (append_assoc (decimal (n / 1_000)) (last (n / 100) ∷ (last (n / 10) ∷ (last n ∷ []))) (b ∷ []))
-      ∙ ap (λ (s : List ℕ). s ++ (b ∷ [])) (thousands 20 n (omega arith) h l))
+-- above three digits, the word of the last three stands behind the others
+pub six_digits : (b n : ℕ) → 1_000 ≤ n → n < 1_000_000 → decimal (n / 1_000) ++ word_of b (n % 1_000) ≡ decimal n ++ (b ∷ [])
+six_digits b n h l =
+    let p : n % 1_000 / 100 % 10 ≡ n / 100 % 10 = omega arith in
+    let q : n % 1_000 / 10 % 10 ≡ n / 10 % 10 = omega arith in
+    let r : n % 1_000 % 10 ≡ n % 10 = omega arith in
+    rw (p, q, r)
+    (sym (append_assoc (decimal (n / 1_000)) (last (n / 100) ∷ (last (n / 10) ∷ (last n ∷ []))) (b ∷ []))
+    ∙ ap (λ (s : List ℕ). s ++ (b ∷ [])) (thousands 20 n (omega arith) h l))
 
 -- ---- the table of words made
 

@@ -13,9 +13,7 @@ use Rattle.chain.specs.StepList.{step_at, steps_in}
 use Rattle.text.specs.Appended.{Appended}
 use Rattle.text.proofs.Appends.{then, named}
 use Rattle.text.proofs.Said.{line_and_steps, lines_append}
-use Rattle.wire.specs.Commands.{next_at}
-use Rattle.wire.specs.declared.commands.Next.{Next}
-use Rattle.wire.specs.declared.commands.Next.TheVariants.{End, Unknown, Cut, Command}
+use Rattle.wire.specs.Commands.{Placed, End, Unknown, Cut, Command, next_at}
 use Rattle.stream.specs.declared.turns.Turn.{Turn}
 use Rattle.stream.specs.Obeyed.{Held, Holds, Obeys}
 use Rattle.stream.specs.Turns.{stopped, told_by, told, Takes}
@@ -40,7 +38,7 @@ same_lines : (n : ℕ) (o : Outcome) (a : Answer) (h : Held) → Obeys o a h
 same_lines n o a h k = rw (k.answer, k.steps) (line_and_steps n o.answer o.steps)
 
 module _ (s : List ℕ) (n at : ℕ) (st : Store) where
-  pub told_is : (x : Next) → next_at s at ≡ x → told s n at st ≡ told_by s n at st x
+  pub told_is : (x : Placed) → next_at s at ≡ x → told s n at st ≡ told_by s n at st x
   unfolding told
   told_is x e = ap (told_by s n at st) e
 

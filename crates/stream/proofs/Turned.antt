@@ -5,16 +5,13 @@ use Prim.Native.Nat.{ℕ, zero, suc, ◌+◌, ◌-◌, ◌*◌, ◌≤◌, ◌<�
 use native.Mathlib.Decide.{dec_lt}
 use native.Mathlib.Omega.{arith}
 use mathlib.Core.List.{List, [], ◌++◌}
+use mathlib.Core.Option.{Option, none, some}
 use lib.ListN.{length, take, drop, get_or}
 use Rattle.rules.specs.declared.Answer.TheVariants.{Refused}
 use Rattle.rules.specs.Calls.{Store, Outcome, core, desk}
 use Rattle.rules.specs.Stream.{next_of, ended, width_of, call_of, said, ending, lines_from}
 use Rattle.rules.proofs.Running.{Ready, core_ready, core_is_desk}
-use Rattle.wire.specs.Commands.{width_in, next_at}
-use Rattle.wire.specs.declared.commands.Next.{Next}
-use Rattle.wire.specs.declared.commands.Next.TheVariants.{End, Unknown, Cut, Command}
-use Rattle.wire.specs.declared.commands.Width.{Width}
-use Rattle.wire.specs.declared.commands.Width.TheVariants.{Bytes, NoCommand}
+use Rattle.wire.specs.Commands.{Placed, End, Unknown, Cut, Command, next_at}
 use Rattle.wire.proofs.Found.{finds_end, finds_unknown, finds_cut, finds_command, ended_at, unknown_at, cut_at, Stands, stands}
 use Rattle.stream.specs.Turns.{Told, stopped, done, told_by, told}
 use Rattle.stream.proofs.Telling.{told_is}
@@ -34,17 +31,17 @@ lines_end k n s at st h = lines_ended k n (drop at s) st (ended_at s at (finds_e
 
 -- something stands before it
 not_ended : (s : List ℕ) (at : ℕ) → at < length s → next_at s at ≡ End → ⊥
-not_ended s at h e = go (width_in (width_of (get_or s at 0))) refl
+not_ended s at h e = go (width_of (get_or s at 0)) refl
   where
-    by_length : (w : ℕ) → width_in (width_of (get_or s at 0)) ≡ Bytes w → Dec (length s - (at + 1) < w) → ⊥
+    by_length : (w : ℕ) → width_of (get_or s at 0) ≡ some w → Dec (length s - (at + 1) < w) → ⊥
     by_length w k (yes l) = let f : next_at s at ≡ Cut = finds_cut s at h w k l in let z : ◌≡◌ {A = ℕ} 0 1 = cc in omega arith
     by_length w k (no l) =
         let f : next_at s at ≡ Command (get_or s at 0) (at + 1) (at + 1 + w) = finds_command s at h w k (omega arith) in
         let z : ◌≡◌ {A = ℕ} 0 1 = cc in omega arith
 
-    go : (x : Width) → width_in (width_of (get_or s at 0)) ≡ x → ⊥
-    go NoCommand k = let f : next_at s at ≡ Unknown = finds_unknown s at h k in let z : ◌≡◌ {A = ℕ} 0 1 = cc in omega arith
-    go (Bytes w) k = by_length w k (dec_lt (length s - (at + 1)) w)
+    go : (x : Option ℕ) → width_of (get_or s at 0) ≡ x → ⊥
+    go none k = let f : next_at s at ≡ Unknown = finds_unknown s at h k in let z : ◌≡◌ {A = ℕ} 0 1 = cc in omega arith
+    go (some w) k = by_length w k (dec_lt (length s - (at + 1)) w)
 
 -- ---- a turn
 
@@ -107,7 +104,7 @@ module _ (s : List ℕ) (n at : ℕ) (st : Store) (low : n < 100_000) (before : 
           fits = omega (arith, h.starts, h.forward);
         }
 
-  turned_by : (x : Next) → next_at s at ≡ x → Turned s n at st (told_by s n at st x)
+  turned_by : (x : Placed) → next_at s at ≡ x → Turned s n at st (told_by s n at st x)
   turned_by End e = absurd (not_ended s at before e)
   turned_by Unknown e = stop_turned 1 (omega arith) (unknown_lines e)
   turned_by Cut e = stop_turned 2 (omega arith) (cut_lines e)

@@ -1,22 +1,19 @@
 -- A command obeyed, as the rules have its call. Assumes nothing.
-use Rattle.std.specs.Prelude.{◌≡◌, ℕ, Bool, true, false, List, ℤ, length, take}
+use Rattle.std.specs.Prelude.{◌≡◌, ℕ, Bool, true, false, List, length, take, replicate}
 use Rattle.std.proofs.Math.Option.{some}
 use Rattle.rules.specs.declared.Answer.{Answer}
-use Rattle.rules.specs.Calls.{Halves, Store, Call, settle, derive, Outcome, core, count_of}
-use Rattle.rules.specs.Stream.{width_of, program_steps}
-use Rattle.refusals.specs.Kept.{Kept, kept_in, Keeps}
+use Rattle.rules.specs.Booking.{position_count, cash_count}
+use Rattle.rules.specs.Calls.{Halves, Store, zeros, Call, settle, derive, Outcome, core, count_of}
+use Rattle.rules.specs.Stream.{width_of, ordered_at, sided_at, ordered_day_at, sided_day_at, program_steps}
+use Rattle.refusals.specs.Kept.{Keeps, nothing_kept}
 use Rattle.chain.specs.StepList.{step_numbers, steps_in}
+use Rattle.wire.specs.declared.commands.Command.{Command}
+use Rattle.wire.specs.declared.commands.Command.TheVariants.{Settle, SettleSided, DeriveSided}
+pub use Rattle.stream.specs.declared.commands.Held.{Held}
 
--- What a stream holds from one command to the next: what is kept of its directory, its positions, its cash and its step list.
-pub record Held : Type 0 where
-  pub kept : Kept
-  pub positions : List ℤ
-  pub cash : List ℤ
-  pub steps : List ℕ
-
--- what is kept of a directory, by its numbers l and its identifiers b, with the positions p, the cash c and the step list x
-abbrev pub held : List ℕ → List ℕ → List ℤ → List ℤ → List ℕ → Held
-held l b p c x = record { kept = kept_in l b; positions = p; cash = c; steps = x }
+-- nothing is held before the first command
+unfoldable pub nothing_held : Held
+nothing_held = record { kept = nothing_kept; positions = zeros position_count; cash = zeros cash_count; steps = replicate step_numbers 0 }
 
 -- It is held of this store; the step list has the length that a derivation asks for.
 pub record Holds (h : Held) (st : Store) : Type 0 where
@@ -35,25 +32,35 @@ pub record Obeys (o : Outcome) (a : Answer) (h : Held) : Type 0 where
 abbrev pub Does : Call → Held → Answer → Held → Type 0
 Does c before a after = (st : Store) → Holds before st → Obeys (core c st) a after
 
--- a call that is lent what is kept of the directory, whatever the rest
-abbrev pub Enters : Call → Kept → Answer → Kept → Type 0
-Enters c before a after =
-    (p m : List ℤ) (x : List ℕ)
-    → Does c (record { kept = before; positions = p; cash = m; steps = x }) a (record { kept = after; positions = p; cash = m; steps = x })
+-- the operands are as many as the command has
+abbrev pub Whole : ℕ → List ℕ → Type 0
+Whole tag operands = width_of tag ≡ some (length operands)
 
--- one that is lent positions and reads the numbers l
-abbrev pub Moves : Call → List ℕ → List ℤ → Answer → List ℤ → Type 0
-Moves c l before a after = (b : List ℕ) (m : List ℤ) (x : List ℕ) → Does c (held l b before m x) a (held l b after m x)
+-- ---- 0A to 0D
 
--- one that is lent cash
-abbrev pub Pays : Call → List ℕ → List ℤ → Answer → List ℤ → Type 0
-Pays c l before a after = (b : List ℕ) (p : List ℤ) (x : List ℕ) → Does c (held l b p before x) a (held l b p after x)
+-- the halves: "delivering first", or with their sides
+abbrev pub halves_for : Command → List ℕ → Halves
+halves_for SettleSided o = sided_at o
+halves_for DeriveSided o = sided_at o
+halves_for _ o = ordered_at o
+
+-- the day behind them
+abbrev pub day_for : Command → List ℕ → ℕ
+day_for SettleSided o = sided_day_at o
+day_for DeriveSided o = sided_day_at o
+day_for _ o = ordered_day_at o
 
 -- two halves settled, or their chain derived, on a day by the program
 abbrev pub instruction : Bool → Halves → ℕ → Call
 instruction true hs day = settle hs day program_steps
 instruction false hs day = derive hs day program_steps
 
--- the operands are as many as the command has
-abbrev pub Whole : ℕ → List ℕ → Type 0
-Whole tag operands = width_of tag ≡ some (length operands)
+-- whether the command settles
+abbrev pub settles : Command → Bool
+settles Settle = true
+settles SettleSided = true
+settles _ = false
+
+-- as the command has it
+abbrev pub instruction_for : Command → List ℕ → Call
+instruction_for x o = instruction (settles x) (halves_for x o) (day_for x o)

@@ -5,9 +5,7 @@ use Rattle.rules.specs.declared.Answer.TheVariants.{Refused}
 use Rattle.rules.specs.Calls.{Store, Outcome, core}
 use Rattle.rules.specs.Stream.{call_of, said}
 use Rattle.text.specs.Appended.{Appended}
-use Rattle.wire.specs.Commands.{next_at}
-use Rattle.wire.specs.declared.commands.Next.{Next}
-use Rattle.wire.specs.declared.commands.Next.TheVariants.{End, Unknown, Cut, Command}
+use Rattle.wire.specs.Commands.{Placed, End, Unknown, Cut, Command, next_at}
 use Rattle.stream.specs.Obeyed.{Held, Holds}
 use Rattle.stream.specs.declared.turns.Turn.{Turn}
 
@@ -26,7 +24,7 @@ abbrev pub done : ℕ → Outcome → ℕ → Told
 done n o at = record { text = said n o.answer o.steps; at = at; left = o.store }
 
 -- command n, by what stands at its place
-abbrev pub told_by : List ℕ → ℕ → ℕ → Store → Next → Told
+abbrev pub told_by : List ℕ → ℕ → ℕ → Store → Placed → Told
 told_by input n at st End = record { text = []; at = at; left = st }
 told_by input n at st Unknown = stopped input n 1 st
 told_by input n at st Cut = stopped input n 2 st

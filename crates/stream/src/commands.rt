@@ -1,181 +1,159 @@
-// Commands obeyed: the operands decoded, and the call made over the index. Lists lent and soundness are not judged here, since a stream's store fits
+// Commands obeyed: the operands decoded, and the call made over what is held. Lists lent and soundness are not judged here, since a stream's store fits
 // and is sound at every command (proofs/Turned).
-ghost use Rattle.std.specs.Prelude.{◌≡◌, List, ℕ, ◌<◌, ◌≤◌};
-ghost use Rattle.rules.specs.Calls.{Halves};
-ghost use Rattle.rules.specs.Stream.{call_of};
-ghost use Rattle.halves.specs.Halves.{in_order, Handed};
-ghost use Rattle.wire.specs.Operands.{halves_in, day_in};
-ghost use Rattle.stream.specs.Obeyed.{held, Does, Enters, Moves, Pays, Whole, instruction};
-ghost use Rattle.refusals.specs.Kept.{kept_in};
+ghost use Rattle.std.specs.Prelude.{◌≡◌};
+ghost use Rattle.rules.specs.Calls.{Halves, enter, move, pay, settle, derive};
+ghost use Rattle.rules.specs.Stream.{call_of, program_steps};
+ghost use Rattle.halves.specs.Halves.{in_order};
+ghost use Rattle.booking.specs.Moves.{way_of};
+ghost use Rattle.wire.specs.Commands.{byte_of};
+ghost use Rattle.stream.specs.Obeyed.{nothing_held, Does, Whole, halves_for, day_for, instruction_for};
 
 use booking::moves::move_securities;
 use booking::payments::move_cash;
 use booking::settling::settle;
 use chain::derivation::derive;
-use entries::entries::{enter_account, enter_csd, enter_link, enter_pair, enter_security};
+use chain::step_list::STEP_NUMBERS;
+use entries::entries::{Keep, enter};
 use halves::{InOrder, in_order};
-use identifiers::names::NAMES;
-use index::places::INDEX;
-use rules::{Answer, Half};
-use wire::commands::ENTER_PAIR;
+use refusals::Kept;
+use rules::{ACCOUNTS, Answer, POSITIONS};
+use wire::commands::Command;
 use wire::operands::{
-    decode_account, decode_csd, decode_day, decode_delivering, decode_first, decode_link,
-    decode_move, decode_pair, decode_payment, decode_receiving, decode_second, decode_security,
-    decode_sided_day,
+    Move, Payment, decode_account, decode_csd, decode_day, decode_delivering, decode_first,
+    decode_link, decode_move, decode_pair, decode_payment, decode_receiving, decode_second,
+    decode_security, decode_sided_day,
 };
 
-// 01 to 03 and 05, where the operands are whole.
-fn enter(index: &mut [u16; INDEX], names: &mut [u8; NAMES], tag: u8, operands: &[u8]) -> Answer
-    requires { tag < 6 }
-    ensures { Whole tag operands.now → Enters (call_of tag operands.now)
-        (kept_in index.old names.old) result (kept_in index.new names.new) }
-{
-    if tag == 1 {
-        return enter_csd(index, names, decode_csd(operands));
-    }
-    if tag == 2 {
-        return enter_security(index, names, decode_security(operands));
-    }
-    if tag == 3 {
-        return enter_account(index, decode_account(operands));
-    }
-    enter_link(index, decode_link(operands))
+// What a stream holds from one command to the next: what is kept of its directory, its positions, its cash and its step list.
+#[derive(Drop)]
+pub(crate) struct Held {
+    pub(crate) kept: Kept,
+    pub(crate) positions: [i64; POSITIONS],
+    pub(crate) cash: [i64; ACCOUNTS],
+    pub(crate) steps: [u16; STEP_NUMBERS],
 }
 
-// 06 and 07, whatever the cash.
-fn move_units(index: &[u16; INDEX], positions: &mut [i64], tag: u8, operands: &[u8]) -> Answer
-    requires { (6 ≤ tag) × (tag < 8) }
-    ensures { Moves (call_of tag operands.now) index.now positions.old result positions.new }
+// The halves of 0A to 0D: "delivering first", or with their sides.
+fn halves_of(command: Command, operands: &[u8]) -> InOrder
+    ensures { result ≡ in_order (halves_for command operands.now) }
 {
-    let asked = decode_move(operands);
-    move_securities(
-        index,
-        positions,
-        tag == 6,
-        asked.account,
-        asked.security,
-        asked.quantity,
-        asked.day,
-    )
-}
-
-// 08 and 09, whatever the positions.
-fn move_money(index: &[u16; INDEX], cash: &mut [i64], tag: u8, operands: &[u8]) -> Answer
-    requires { (8 ≤ tag) × (tag < 10) }
-    ensures { Pays (call_of tag operands.now) index.now cash.old result cash.new }
-{
-    let asked = decode_payment(operands);
-    move_cash(index, cash, tag == 8, asked.account, asked.amount)
-}
-
-// The halves of 0A to 0D.
-fn read_pair(tag: u8, operands: &[u8]) -> InOrder
-    ensures { result ≡ in_order (halves_in tag operands.now) }
-{
-    if tag < 12 {
-        return InOrder {
-            delivering: decode_delivering(operands),
-            receiving: decode_receiving(operands),
-            unknown: false,
-            same: false,
-        };
+    match command {
+        Command::SettleSided | Command::DeriveSided => {
+            in_order(decode_first(operands), decode_second(operands))
+        }
+        _ => InOrder::delivering_first(decode_delivering(operands), decode_receiving(operands)),
     }
-    let first = decode_first(operands);
-    let second = decode_second(operands);
-    in_order(first, second)
 }
 
 // The day behind them.
-fn read_day(tag: u8, operands: &[u8]) -> u16
-    ensures { result ≡ day_in tag operands.now }
+fn day_of(command: Command, operands: &[u8]) -> u16
+    ensures { result ≡ day_for command operands.now }
 {
-    if tag < 12 {
-        return decode_day(operands);
+    match command {
+        Command::SettleSided | Command::DeriveSided => decode_sided_day(operands),
+        _ => decode_day(operands),
     }
-    decode_sided_day(operands)
 }
 
-// Two halves settled, or their chain derived, on a day. What is asked of the sides comes before it.
-fn instruct_pair(
-    index: &[u16; INDEX],
-    positions: &mut [i64],
-    cash: &mut [i64],
-    steps: &mut [u16],
-    settles: bool,
-    delivering: Half,
-    receiving: Half,
-    unknown: bool,
-    same: bool,
-    day: u16,
-) -> Answer
-    ensures { (hs : Halves) → Handed hs delivering receiving unknown same → (b : List ℕ) → Does (instruction settles hs day)
-        (held index.now b positions.old cash.old steps.old) result
-        (held index.now b positions.new cash.new steps.new) }
-{
-    if settles {
-        return settle(
-            index, positions, cash, steps, delivering, receiving, unknown, same, day,
-        );
+impl Held {
+    // Before the first command.
+    pub(crate) fn nothing() -> Held
+        ensures { result ≡ nothing_held }
+    {
+        Held {
+            kept: Kept::nothing(),
+            positions: [0; POSITIONS],
+            cash: [0; ACCOUNTS],
+            steps: [0; STEP_NUMBERS],
+        }
     }
-    derive(index, steps, delivering, receiving, unknown, same, day)
-}
 
-// 0A and 0B, 0C and 0D.
-fn instruct(
-    index: &[u16; INDEX],
-    positions: &mut [i64],
-    cash: &mut [i64],
-    steps: &mut [u16],
-    tag: u8,
-    operands: &[u8],
-) -> Answer
-    requires { (10 ≤ tag) × (tag < 14) }
-    ensures { (b : List ℕ) → Does (call_of tag operands.now)
-        (held index.now b positions.old cash.old steps.old) result
-        (held index.now b positions.new cash.new steps.new) }
-{
-    let pair = read_pair(tag, operands);
-    let day = read_day(tag, operands);
-    let settles = (tag == 10) | (tag == 12);
-    instruct_pair(
-        index,
-        positions,
-        cash,
-        steps,
-        settles,
-        pair.delivering,
-        pair.receiving,
-        pair.unknown,
-        pair.same,
-        day,
-    )
-}
+    // A row entered.
+    fn enter<R: Keep>(&mut self, row: R) -> Answer
+        ensures { Does (enter (R.Entry.as_row row)) self.old result self.new }
+    {
+        Answer::from(enter(&mut self.kept, row))
+    }
 
-// The command `tag`, where its operands are whole.
-pub(crate) fn obey(
-    index: &mut [u16; INDEX],
-    names: &mut [u8; NAMES],
-    positions: &mut [i64],
-    cash: &mut [i64],
-    steps: &mut [u16],
-    tag: u8,
-    operands: &[u8],
-) -> Answer
-    ensures { Whole tag operands.now → Does (call_of tag operands.now)
-        (held index.old names.old positions.old cash.old steps.old) result
-        (held index.new names.new positions.new cash.new steps.new) }
-{
-    if tag < 6 {
-        return enter(index, names, tag, operands);
+    // Securities brought in, or taken out.
+    fn move_units(&mut self, incoming: bool, asked: Move) -> Answer
+        ensures { Does (move (way_of incoming) asked.account asked.security asked.quantity asked.day) self.old result self.new }
+    {
+        Answer::from(move_securities(
+            &self.kept.numbers,
+            &mut self.positions,
+            incoming,
+            asked.account,
+            asked.security,
+            asked.quantity,
+            asked.day,
+        ))
     }
-    if tag < 8 {
-        return move_units(index, positions, tag, operands);
+
+    // Cash paid in, or paid out.
+    fn move_money(&mut self, incoming: bool, asked: Payment) -> Answer
+        ensures { Does (pay (way_of incoming) asked.account asked.amount) self.old result self.new }
+    {
+        Answer::from(move_cash(
+            &self.kept.numbers,
+            &mut self.cash,
+            incoming,
+            asked.account,
+            asked.amount,
+        ))
     }
-    if tag < 10 {
-        return move_money(index, cash, tag, operands);
+
+    // Two halves settled on a day.
+    fn settle(&mut self, halves: InOrder, day: u16) -> Answer
+        ensures { (hs : Halves) → halves ≡ in_order hs → Does (settle hs day program_steps) self.old result self.new }
+    {
+        Answer::booked(settle(
+            &self.kept.numbers,
+            &mut self.positions,
+            &mut self.cash,
+            &mut self.steps,
+            halves,
+            day,
+        ))
     }
-    if tag < ENTER_PAIR {
-        return instruct(index, positions, cash, steps, tag, operands);
+
+    // Their chain derived.
+    fn derive(&mut self, halves: InOrder, day: u16) -> Answer
+        ensures { (hs : Halves) → halves ≡ in_order hs → Does (derive hs day program_steps) self.old result self.new }
+    {
+        Answer::chained(derive(&self.kept.numbers, &mut self.steps, halves, day))
     }
-    enter_pair(index, decode_pair(operands))
+
+    // 0A to 0D. Halves and day are read once for all of them: of what is called at one place alone the compiler makes no call.
+    fn instruct(&mut self, command: Command, operands: &[u8]) -> Answer
+        ensures { Does (instruction_for command operands.now) self.old result self.new }
+    {
+        let halves = halves_of(command, operands);
+        let day = day_of(command, operands);
+        match command {
+            Command::Settle | Command::SettleSided => self.settle(halves, day),
+            _ => self.derive(halves, day),
+        }
+    }
+
+    // A command, where its operands are whole.
+    pub(crate) fn obey(&mut self, command: Command, operands: &[u8]) -> Answer
+        ensures { Whole (byte_of command) operands.now → Does (call_of (byte_of command) operands.now) self.old result self.new }
+    {
+        match command {
+            Command::EnterCsd => self.enter(decode_csd(operands)),
+            Command::EnterSecurity => self.enter(decode_security(operands)),
+            Command::EnterAccount => self.enter(decode_account(operands)),
+            Command::EnterLink => self.enter(decode_link(operands)),
+            Command::BringIn | Command::TakeOut => {
+                self.move_units(command == Command::BringIn, decode_move(operands))
+            }
+            Command::PayIn | Command::PayOut => {
+                self.move_money(command == Command::PayIn, decode_payment(operands))
+            }
+            Command::Settle | Command::Derive | Command::SettleSided | Command::DeriveSided =>
+                self.instruct(command, operands),
+            Command::EnterPair => self.enter(decode_pair(operands)),
+        }
+    }
 }

@@ -5,14 +5,11 @@
 ghost use Rattle.rules.specs.Stream.{transcript};
 ghost use Rattle.rules.specs.Stream.{Printed};
 
-use chain::step_list::STEP_NUMBERS;
+use commands::Held;
 use ending::put_ending;
-use identifiers::names::NAMES;
-use index::places::INDEX;
-use rules::{ACCOUNTS, POSITIONS};
 use text::pieces::put_word;
 use turns::take_turn;
-use words::{THOUSAND, WORDS, put_sizes, put_words};
+use words::Tables;
 
 pub mod commands; // commands.rt: one command's operands decoded, and its call made
 mod bytes; // bytes.rt: a few bytes, where there is room
@@ -37,39 +34,17 @@ pub fn run(input: &[u8], output: &mut [u8]) -> usize
     if INPUT < input.len() {
         return put_word(output, 0, b"too long\n");
     }
-    let mut index = [0u16; INDEX];
-    let mut names = [0u8; NAMES];
-    let mut positions = [0i64; POSITIONS];
-    let mut cash = [0i64; ACCOUNTS];
-    let mut steps = [0u16; STEP_NUMBERS];
-    let mut words = [0u8; WORDS];
-    put_words(&mut words, b' ');
-    let mut lasts = [0u8; WORDS];
-    put_words(&mut lasts, b'\n');
-    let mut sizes = [0u8; THOUSAND];
-    put_sizes(&mut sizes);
+    let mut held = Held::nothing();
+    let tables = Tables::new();
     let mut at: usize = 0;
     let mut number: u32 = 0;
     let mut end: usize = 0;
+    // A `while`: where the next command stands comes from the turn, not by counting.
     while at < input.len() {
         number += 1;
-        let turn = take_turn(
-            input,
-            at,
-            number,
-            &mut index,
-            &mut names,
-            &mut positions,
-            &mut cash,
-            &mut steps,
-            output,
-            end,
-            &words,
-            &lasts,
-            &sizes,
-        );
+        let turn = take_turn(input, at, number, &mut held, output, end, &tables);
         at = turn.at;
         end = turn.end;
     }
-    put_ending(output, end, &index, &names, &positions, &cash)
+    put_ending(output, end, &held.kept, &held.positions, &held.cash)
 }

@@ -3,34 +3,31 @@ ghost use Rattle.std.specs.Prelude.{◌≡◌, [], ◌∷◌, ◌++◌, ◌+◌,
 ghost use Rattle.rules.specs.Stream.{step_line, step_lines, answer_text, said};
 ghost use Rattle.chain.specs.StepList.{steps_in};
 ghost use Rattle.text.specs.Appended.{Appended};
-ghost use Rattle.stream.specs.Words.{number_words, number_sizes};
 
-use crate::bytes::{put_four, put_three, put_two};
-use crate::words::{THOUSAND, WORDS, put_before, put_last, put_number, size_at};
+use crate::bytes::put_bytes;
+use crate::words::{THOUSAND, Tables};
 use chain::step_list::step_at;
 use rules::{Answer, STEPS, Step};
 use text::lines::put_step;
 
 // An answer and the line's end.
-fn put_answer_by(out: &mut [u8], at: usize, answer: Answer, lasts: &[u8; WORDS]) -> usize
-    requires { (at + 11 ≤ length out.old) × (lasts.now ≡ number_words 10) }
+fn put_answer_by(out: &mut [u8], at: usize, answer: Answer, tables: &Tables) -> usize
+    requires { at + 11 ≤ length out.old }
     ensures { Appended out.old at out.new result (answer_text answer ++ (10 ∷ [])) }
 {
     match answer {
-        Answer::Accepted => put_three(out, at, b'o', b'k', b'\n'),
+        Answer::Accepted => put_bytes(out, at, b"ok\n"),
         Answer::Booked(k) => {
-            let a = put_three(out, at, b'b', b'o', b'o');
-            let b = put_four(out, a, b'k', b'e', b'd', b' ');
-            put_last(out, b, k, lasts)
+            let a = put_bytes(out, at, b"booked ");
+            tables.put_last(out, a, k)
         }
         Answer::Chained(k) => {
-            let a = put_three(out, at, b'c', b'h', b'a');
-            let b = put_three(out, a, b'i', b'n', b' ');
-            put_last(out, b, k, lasts)
+            let a = put_bytes(out, at, b"chain ");
+            tables.put_last(out, a, k)
         }
         Answer::Refused(n) => {
-            let a = put_three(out, at, b'n', b'o', b' ');
-            put_last(out, a, n as usize, lasts)
+            let a = put_bytes(out, at, b"no ");
+            tables.put_last(out, a, n as usize)
         }
     }
 }
@@ -41,65 +38,50 @@ pub(crate) fn put_line_by(
     at: usize,
     number: u32,
     answer: Answer,
-    words: &[u8; WORDS],
-    lasts: &[u8; WORDS],
+    tables: &Tables,
 ) -> usize
-    requires { (number < 1_000_000) × (at + 20 ≤ length out.old) × (words.now ≡ number_words 32) × (lasts.now ≡ number_words 10) }
+    requires { (number < 1_000_000) × (at + 20 ≤ length out.old) }
     ensures { Appended out.old at out.new result (said number answer []) }
 {
-    let end = put_number(out, at, number, words);
-    put_answer_by(out, end, answer, lasts)
+    let end = tables.put_number(out, at, number);
+    put_answer_by(out, end, answer, tables)
 }
 
 // "a line per step: `-`, CSD, debited, credited", where there is room: written from its last number to its first byte.
-fn put_step_by(
-    out: &mut [u8],
-    at: usize,
-    step: Step,
-    words: &[u8; WORDS],
-    lasts: &[u8; WORDS],
-    sizes: &[u8; THOUSAND],
-) -> usize
-    requires { (at + 20 ≤ length out.old) × (words.now ≡ number_words 32) × (lasts.now ≡ number_words 10) × (sizes.now ≡ number_sizes) }
+fn put_step_by(out: &mut [u8], at: usize, step: Step, tables: &Tables) -> usize
+    requires { at + 20 ≤ length out.old }
     ensures { Appended out.old at out.new result (step_line step) × (result ≤ at + 20) }
 {
     let csd = step.csd as usize;
     let debited = step.debited as usize;
     let credited = step.credited as usize;
-    if THOUSAND <= debited {
-        return put_step(out, at, step);
+    if THOUSAND <= debited || THOUSAND <= credited {
+        // Put together here alone: no other line needs the step in memory.
+        let wide = Step {
+            csd: step.csd,
+            debited: step.debited,
+            credited: step.credited,
+        };
+        return put_step(out, at, wide);
     }
-    if THOUSAND <= credited {
-        return put_step(out, at, step);
-    }
-    let a = at + 2 + size_at(sizes, csd);
-    let b = a + size_at(sizes, debited);
-    let c = b + size_at(sizes, credited);
-    put_before(out, c, credited, lasts);
-    put_before(out, b, debited, words);
-    put_before(out, a, csd, words);
-    put_two(out, at, b'-', b' ');
+    let a = at + 2 + tables.size(csd);
+    let b = a + tables.size(debited);
+    let c = b + tables.size(credited);
+    tables.ended.put_before(out, c, credited);
+    tables.spaced.put_before(out, b, debited);
+    tables.spaced.put_before(out, a, csd);
+    put_bytes(out, at, b"- ");
     c
 }
 
 // The lines of the first k steps, where there is room.
-fn put_short_steps(
-    out: &mut [u8],
-    at: usize,
-    k: usize,
-    steps: &[u16],
-    words: &[u8; WORDS],
-    lasts: &[u8; WORDS],
-    sizes: &[u8; THOUSAND],
-) -> usize
-    requires { (at + 20 * k ≤ length out.old) × (words.now ≡ number_words 32) × (lasts.now ≡ number_words 10) × (sizes.now ≡ number_sizes) }
+fn put_short_steps(out: &mut [u8], at: usize, k: usize, steps: &[u16], tables: &Tables) -> usize
+    requires { at + 20 * k ≤ length out.old }
     ensures { Appended out.old at out.new result (step_lines (steps_in steps.now k)) }
 {
     let mut end = at;
-    let mut i: usize = 0;
-    while i < k {
-        end = put_step_by(out, end, step_at(steps, i), words, lasts, sizes);
-        i += 1;
+    for i in 0..k {
+        end = put_step_by(out, end, step_at(steps, i), tables);
     }
     end
 }
@@ -110,10 +92,8 @@ fn put_any_steps(out: &mut [u8], at: usize, k: usize, steps: &[u16]) -> usize
     ensures { Appended out.old at out.new result (step_lines (steps_in steps.now k)) }
 {
     let mut end = at;
-    let mut i: usize = 0;
-    while i < k {
+    for i in 0..k {
         end = put_step(out, end, step_at(steps, i));
-        i += 1;
     }
     end
 }
@@ -124,15 +104,13 @@ pub(crate) fn put_steps(
     at: usize,
     k: usize,
     steps: &[u16],
-    words: &[u8; WORDS],
-    lasts: &[u8; WORDS],
-    sizes: &[u8; THOUSAND],
+    tables: &Tables,
 ) -> usize
-    requires { (at + 320 ≤ length out.old) × (words.now ≡ number_words 32) × (lasts.now ≡ number_words 10) × (sizes.now ≡ number_sizes) }
+    requires { at + 320 ≤ length out.old }
     ensures { Appended out.old at out.new result (step_lines (steps_in steps.now k)) }
 {
     if STEPS < k {
         return put_any_steps(out, at, k, steps);
     }
-    put_short_steps(out, at, k, steps, words, lasts, sizes)
+    put_short_steps(out, at, k, steps, tables)
 }

@@ -1,15 +1,9 @@
 // Words and numbers.
-ghost use Rattle.std.specs.Prelude.{◌≡◌, min, ◌+◌, ◌/◌, ◌%◌, ◌<◌, ◌∷◌, [], ◌++◌};
+ghost use Rattle.std.specs.Prelude.{◌≡◌, ◌+◌, ◌/◌, ◌%◌, ◌<◌, ◌∷◌, [], ◌++◌};
 ghost use Rattle.rules.specs.Stream.{digits, decimal, signed};
 ghost use Rattle.text.specs.Appended.{Appended};
 
 use amounts::magnitude;
-
-pub(crate) fn lesser(a: usize, b: usize) -> usize
-    ensures { result ≡ min a b }
-{
-    if a < b { a } else { b }
-}
 
 fn put_byte(out: &mut [u8], at: usize, byte: u8) -> usize
     ensures { Appended out.old at out.new result (byte ∷ []) }
@@ -21,31 +15,15 @@ fn put_byte(out: &mut [u8], at: usize, byte: u8) -> usize
     at + 1
 }
 
+// As much of the word as there is room for. Not inlined: a stream writes words on its rare paths alone, and its loop is faster without their code.
+#[inline(never)]
 pub fn put_word(out: &mut [u8], at: usize, word: &[u8]) -> usize
     ensures { Appended out.old at out.new result word.now }
 {
-    let mut end = lesser(at, out.len());
-    let mut i: usize = 0;
-    while i < word.len() {
-        end = put_byte(out, end, word[i]);
-        i += 1;
-    }
+    let from = at.min(out.len());
+    let end = from + word.len().min(out.len() - from);
+    out[from..end].copy_from_slice(&word[..end - from]);
     end
-}
-
-// The decimal digits of n, at most k of them. The last digit stands behind those of a tenth of n.
-fn put_digits(out: &mut [u8], at: usize, n: u64, k: usize) -> usize
-    ensures { Appended out.old at out.new result (digits k n) }
-{
-    if k == 0 {
-        return lesser(at, out.len());
-    }
-    let digit = (n % 10) as u8 + b'0';
-    if n < 10 {
-        return put_byte(out, at, digit);
-    }
-    let before = put_digits(out, at, n / 10, k - 1);
-    put_byte(out, before, digit)
 }
 
 // The last decimal digit of n.
@@ -53,6 +31,20 @@ fn last_digit(n: u64) -> u8
     ensures { result ≡ n % 10 + 48 }
 {
     (n % 10) as u8 + b'0'
+}
+
+// The decimal digits of n, at most k of them. The last digit stands behind those of a tenth of n.
+fn put_digits(out: &mut [u8], at: usize, n: u64, k: usize) -> usize
+    ensures { Appended out.old at out.new result (digits k n) }
+{
+    if k == 0 {
+        return at.min(out.len());
+    }
+    if n < 10 {
+        return put_byte(out, at, last_digit(n));
+    }
+    let before = put_digits(out, at, n / 10, k - 1);
+    put_byte(out, before, last_digit(n))
 }
 
 // The last three decimal digits of n.

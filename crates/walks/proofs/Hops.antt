@@ -2,11 +2,13 @@
 use Prim.Native.Nat.{ℕ}
 use mathlib.Core.Path.{◌≡◌, refl}
 use mathlib.Core.Bool.{Bool, true, false, cond}
+use mathlib.Core.List.{List}
 use mathlib.Core.Option.{Option, none, some}
 use Rattle.rules.specs.declared.Hop.{Hop}
 use Rattle.rules.specs.declared.Hop.TheVariants.{Ends, On}
-use Rattle.rules.specs.declared.WalkEnd.TheVariants.{Inside, NoLink}
-use Rattle.rules.specs.Lookups.{Lookups}
+use Rattle.rules.specs.declared.WalkEnd.TheVariants.{Inside, Outside, NoLink}
+use Rattle.index.specs.Asked.{asked, asked_on}
+use Rattle.walks.proofs.Days.{outside_on}
 use Rattle.rules.specs.Walks.{follow, default_hop}
 use Rattle.index.specs.declared.links.Leading.{Leading}
 use Rattle.index.specs.declared.links.Leading.TheVariants.{Issuer, To, Nowhere}
@@ -24,6 +26,12 @@ led_by_lem c true o = refl
 led_by_lem c false none = refl
 led_by_lem c false (some t) = refl
 
-pub hop_led : (K : Lookups) (s c : ℕ) (x : Leading) → K.outside c ≡ false → x ≡ leading_of (K.issuer s c) (K.onward s c) → led_by c x ≡ default_hop K s c
-unfolding default_hop
-hop_led K s c x o e = rw (o, e) (led_by_lem c (K.issuer s c) (K.onward s c))
+-- what is asked of a CSD's type and of its links on the day
+module _ (l : List ℕ) (day s c : ℕ) (external : Bool) (e : external ≡ (asked l).outside c) where
+  pub outside_hop : external ≡ true → Ends (Outside c) ≡ default_hop (asked_on l day) s c
+  unfolding default_hop
+  outside_hop o = rw (← outside_on l day c, ← e, o)
+
+  pub hop_led : external ≡ false → (x : Leading) → x ≡ leading_of ((asked_on l day).issuer s c) ((asked_on l day).onward s c) → led_by c x ≡ default_hop (asked_on l day) s c
+  unfolding default_hop
+  hop_led o x f = rw (← outside_on l day c, ← e, o, f) (led_by_lem c ((asked_on l day).issuer s c) ((asked_on l day).onward s c))

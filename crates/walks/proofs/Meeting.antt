@@ -2,7 +2,7 @@
 use Prim.Native.Nat.{ℕ, zero, suc, ◌+◌, ◌-◌, ◌≤◌, ◌<◌}
 use mathlib.Core.Path.{◌≡◌, refl, sym, ap, ◌∙◌}
 use mathlib.Core.Logic.{⊎_elim}
-use mathlib.Core.Bool.{Bool, true, false, not, cond, and-false}
+use mathlib.Core.Bool.{Bool, true, false, not, cond}
 use mathlib.Core.List.{List, [], ◌∷◌, ◌++◌, Memᴰ}
 use mathlib.Core.Option.{Option, none, some}
 use native.Mathlib.Omega.{arith}
@@ -237,10 +237,3 @@ module _ (K : Lookups) (s : ℕ) where
         outside = out_of_T2_s (get_or w.path (length w.path - 1) 0) y (drop (length w.path - 1) w.path) w.end
             (runs_from (default_hop K s) a w.path w.end (length w.path - 1) runs_w (omega (arith, k.few)))
             (omega (arith, k.few, length-drop (length w.path - 1) w.path)) f
-
--- ---- walks of which one has not arrived
-pub unarrived : (K : Lookups) (w v : Walk) → arrived w.end ≡ false → shared K w v ≡ none
-unarrived K w v e = rw e
-
-pub unarrived' : (K : Lookups) (w v : Walk) → arrived v.end ≡ false → shared K w v ≡ none
-unarrived' K w v e = rw (e, and-false)

@@ -1,23 +1,13 @@
--- A side by its length, its last CSD, and the CSDs that two paths have in common at their ends.
+-- The last CSD of a path, and the CSDs that two paths have in common at their ends.
 use Prim.Native.Nat.{ℕ, zero, suc, ◌+◌, ◌≤◌, ◌<◌, ◌-◌}
 use mathlib.Core.Path.{◌≡◌, refl, sym, ap, ◌∙◌}
 use mathlib.Core.List.{List, [], ◌∷◌}
 use native.Mathlib.Omega.{arith}
-use lib.ListN.{length, take, drop, get_or, length-take}
-use lib.Seq.{drop-cons, drop-length, get_or-take}
+use lib.ListN.{length, drop, get_or}
+use lib.Seq.{drop-cons, drop-length}
 use Rattle.rules.specs.Directory.{no_csd}
 use Rattle.rules.specs.Chain.{last_of}
 use Rattle.walks.specs.Routes.{CommonEnd}
-
--- the CSDs that a side names are as many of its list as it names
-pub take_named : (l : List ℕ) (n : ℕ) → take (length (take n l)) l ≡ take n l
-take_named l zero = refl
-take_named [] (suc n) = refl
-take_named (c ∷ l) (suc n) = ap (λ (r : List ℕ). c ∷ r) (take_named l n)
-
--- its CSD before the last k
-pub named_at : (l : List ℕ) (n m k : ℕ) → m ≡ length (take n l) → k < m → get_or (take n l) (length (take n l) - k - 1) 0 ≡ get_or l (m - k - 1) 0
-named_at l n m k e h = rw (← e) (get_or-take n l (m - k - 1) 0 (omega (arith, length-take n l)))
 
 -- ---- the last CSD
 pub last_none : (p : List ℕ) → length p ≡ 0 → no_csd ≡ last_of p

@@ -1,55 +1,18 @@
 -- The route's cases, one by one: what was found of the walks decides it.
 use Prim.Native.Nat.{ℕ, zero, suc, ◌-◌, ◌≤◌, ◌<◌}
-use mathlib.Core.Path.{◌≡◌, refl, sym, ap, ◌∙◌}
-use mathlib.Core.Bool.{Bool, true, false}
-use mathlib.Core.List.{List, [], ◌∷◌}
+use mathlib.Core.Path.{◌≡◌}
+use mathlib.Core.Bool.{true, false}
+use mathlib.Core.List.{[], ◌∷◌}
 use mathlib.Core.Option.{none}
 use native.Mathlib.Numerals.{sub-one}
 use native.Mathlib.Omega.{arith}
-use lib.Dec.{leb}
 use lib.ListN.{length, take}
-use borrow.Author.Tests.{eq-eqb, ne_eqb, leb-true}
-use Rattle.rules.specs.declared.Join.{Join}
+use borrow.Author.Tests.{eq-eqb, ne_eqb}
 use Rattle.rules.specs.declared.Join.TheVariants.{Meeting}
-use Rattle.rules.specs.declared.WalkEnd.{WalkEnd}
-use Rattle.rules.specs.declared.WalkEnd.TheVariants.{Inside, Outside, NoLink, TooLong}
-use Rattle.rules.specs.declared.Verdict.{Verdict}
-use Rattle.rules.specs.declared.Verdict.TheVariants.{TwoIssuers, TwoExternals, Apart}
 use Rattle.rules.specs.Lookups.{Lookups}
 use Rattle.rules.specs.Walks.{Walk, default_walk, directed_walk, reached}
-use Rattle.rules.specs.Chain.{sides, apart, route, shared, judged, joined_by}
-use Rattle.walks.specs.Routes.{MeetAt, route_by}
-
--- ---- a refusal is a number above 0
-numbered : Verdict → Bool
-numbered TwoIssuers = true
-numbered TwoExternals = true
-numbered (Apart n) = leb 1 n
-
-judged_numbered : (d r : WalkEnd) → numbered (judged d r) ≡ true
-unfolding numbered
-judged_numbered (Inside i) (Inside j) = refl
-judged_numbered (Inside i) (Outside y) = refl
-judged_numbered (Inside i) NoLink = refl
-judged_numbered (Inside i) TooLong = refl
-judged_numbered (Outside x) (Inside j) = refl
-judged_numbered (Outside x) (Outside y) = refl
-judged_numbered (Outside x) NoLink = refl
-judged_numbered (Outside x) TooLong = refl
-judged_numbered NoLink r = refl
-judged_numbered TooLong (Inside j) = refl
-judged_numbered TooLong (Outside y) = refl
-judged_numbered TooLong NoLink = refl
-judged_numbered TooLong TooLong = refl
-
-by_number_lem : (n : ℕ) (j : Join) (p q : List ℕ) → 1 ≤ n → route_by n j p q ≡ apart n
-by_number_lem zero j p q h = absurd (omega arith)
-by_number_lem (suc n) j p q h = refl
-
-pub refused_apart : (d r : WalkEnd) (n : ℕ) (j : Join) (p q p' q' : List ℕ) → judged d r ≡ Apart n → route_by n j p q ≡ joined_by (judged d r) p' q'
-unfolding numbered
-refused_apart d r n j p q p' q' e =
-    rw e (by_number_lem n j p q (leb-true 1 n (sym (ap numbered e) ∙ judged_numbered d r)))
+use Rattle.rules.specs.Chain.{sides, route, shared, judged, joined_by}
+use Rattle.walks.specs.Routes.{MeetAt}
 
 -- ---- walks that do not meet
 pub unmet : (n : ℕ) (K : Lookups) (w v : Walk) → n ≤ 0 → MeetAt n K w v → shared K w v ≡ none

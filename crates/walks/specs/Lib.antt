@@ -1,3 +1,4 @@
 pub mod Sides
+pub mod Ends
 pub mod Walks
 pub mod Routes

@@ -1,7 +1,8 @@
 -- What the code's routes stand for.
-use Rattle.std.specs.Prelude.{ℕ, zero, suc, ◌-◌, ◌≤◌, ◌<◌, ◌≡◌, Bool, false, ◌||◌, List, eqb, length, take, drop, get_or}
+use Rattle.std.specs.Prelude.{ℕ, zero, suc, ◌-◌, ◌≤◌, ◌<◌, ◌≡◌, Bool, false, ◌||◌, List, eqb, length, take, drop, get_or, Result, Ok, Err}
 use Rattle.std.proofs.Math.Option.{none, some}
-use Rattle.rules.specs.declared.Join.{Join}
+use Rattle.rules.specs.declared.refusal.Refusal.{Refusal}
+use Rattle.rules.specs.Numbers.{number}
 use Rattle.rules.specs.Tests.{any}
 use Rattle.rules.specs.Lookups.{Lookups}
 use Rattle.rules.specs.Walks.{Walk, default_walk}
@@ -9,7 +10,7 @@ use Rattle.rules.specs.Chain.{Route, sides, apart, shared, up_to}
 use Rattle.walks.specs.Sides.{named}
 use Rattle.walks.specs.Walks.{walk_of}
 use Rattle.walks.specs.declared.walks.Walk.{Walk as WalkFound}
-use Rattle.walks.specs.declared.routes.RouteFound.{RouteFound}
+use Rattle.walks.specs.declared.routes.Route.{Route as Joined}
 
 -- the last n CSDs of both paths are the same, and no more
 pub record CommonEnd (p q : List ℕ) (n : ℕ) : Type 0 where
@@ -37,11 +38,7 @@ turns k s t c = eqb c t || k.linked s c t
 abbrev pub Unturned : Lookups → ℕ → ℕ → ℕ → WalkFound → WalkFound → Type 0
 Unturned k s from to w v = (any (turns k s to) (named w.side) ≡ false) × (any (turns k s from) (named v.side) ≡ false)
 
--- a refusal of 0 says that the sides join
-abbrev pub route_by : ℕ → Join → List ℕ → List ℕ → Route
-route_by zero j p q = sides j p q
-route_by (suc n) j p q = apart (suc n)
-
--- the sides, where nothing refuses
-abbrev pub route_of : RouteFound → Route
-route_of r = route_by r.refusal r.join (named r.delivering) (named r.receiving)
+-- how the sides join and the CSDs that they name, or the refusal
+abbrev pub route_of : Result Joined Refusal → Route
+route_of (Ok r) = sides r.join (named r.delivering) (named r.receiving)
+route_of (Err e) = apart (number e)

@@ -2,56 +2,34 @@
 ghost use Rattle.std.specs.Prelude.{◌≡◌};
 ghost use Rattle.rules.specs.Walks.{arrived, reached};
 ghost use Rattle.rules.specs.Chain.{judged};
+ghost use Rattle.walks.specs.Ends.{verdict_of};
 
-use rules::{Verdict, WalkEnd, refusal};
+use rules::{Join, Refusal, WalkEnd};
 
 // Whether a walk ended inside or outside.
 pub fn has_arrived(end: WalkEnd) -> bool
     ensures { result ≡ arrived end }
 {
-    match end {
-        WalkEnd::Inside(_) => true,
-        WalkEnd::Outside(_) => true,
-        WalkEnd::NoLink => false,
-        WalkEnd::TooLong => false,
-    }
+    matches!(end, WalkEnd::Inside(_) | WalkEnd::Outside(_))
 }
 
 // Whether a directed walk ended at its target.
 pub fn has_reached(target: u8, end: WalkEnd) -> bool
     ensures { result ≡ reached target end }
 {
-    match end {
-        WalkEnd::Inside(csd) => csd == target,
-        WalkEnd::Outside(_) => false,
-        WalkEnd::NoLink => false,
-        WalkEnd::TooLong => false,
-    }
+    matches!(end, WalkEnd::Inside(csd) if csd == target)
 }
 
-// The chain's kind, or the number that refuses it, by the ends of the delivering and the receiving default walk.
-pub fn judge(delivering: WalkEnd, receiving: WalkEnd) -> Verdict
-    ensures { result ≡ judged delivering receiving }
+// How the two sides join, or the refusal, by the ends of the delivering and the receiving default walk.
+pub fn judge(delivering: WalkEnd, receiving: WalkEnd) -> Result<Join, Refusal>
+    ensures { verdict_of result ≡ judged delivering receiving }
 {
-    match delivering {
-        WalkEnd::Inside(_) => match receiving {
-            WalkEnd::Inside(_) => Verdict::TwoIssuers,
-            WalkEnd::Outside(_) => Verdict::Apart(refusal::RECEIVER_OUTSIDE),
-            WalkEnd::NoLink => Verdict::Apart(refusal::NO_LINK),
-            WalkEnd::TooLong => Verdict::Apart(refusal::SIDE_TOO_LONG),
-        },
-        WalkEnd::Outside(_) => match receiving {
-            WalkEnd::Inside(_) => Verdict::Apart(refusal::DELIVERER_OUTSIDE),
-            WalkEnd::Outside(_) => Verdict::TwoExternals,
-            WalkEnd::NoLink => Verdict::Apart(refusal::NO_LINK),
-            WalkEnd::TooLong => Verdict::Apart(refusal::SIDE_TOO_LONG),
-        },
-        WalkEnd::NoLink => Verdict::Apart(refusal::NO_LINK),
-        WalkEnd::TooLong => match receiving {
-            WalkEnd::Inside(_) => Verdict::Apart(refusal::SIDE_TOO_LONG),
-            WalkEnd::Outside(_) => Verdict::Apart(refusal::SIDE_TOO_LONG),
-            WalkEnd::NoLink => Verdict::Apart(refusal::NO_LINK),
-            WalkEnd::TooLong => Verdict::Apart(refusal::SIDE_TOO_LONG),
-        },
+    match (delivering, receiving) {
+        (WalkEnd::NoLink, _) | (_, WalkEnd::NoLink) => Err(Refusal::NoLink),
+        (WalkEnd::TooLong, _) | (_, WalkEnd::TooLong) => Err(Refusal::SideTooLong),
+        (WalkEnd::Inside(_), WalkEnd::Inside(_)) => Ok(Join::Issuers),
+        (WalkEnd::Outside(_), WalkEnd::Outside(_)) => Ok(Join::Externals),
+        (WalkEnd::Inside(_), WalkEnd::Outside(_)) => Err(Refusal::ReceiverOutside),
+        (WalkEnd::Outside(_), WalkEnd::Inside(_)) => Err(Refusal::DelivererOutside),
     }
 }

@@ -6,87 +6,74 @@ ghost use Rattle.rules.specs.Chain.{judged, joined_by, route};
 ghost use Rattle.rules.specs.Chain.Route.{sides};
 ghost use Rattle.index.specs.Asked.{is_target, asked_on};
 ghost use Rattle.walks.specs.Sides.{named};
-ghost use Rattle.walks.specs.Walks.{walk_of};
+ghost use Rattle.walks.specs.Walks.{seen, walk_of};
 ghost use Rattle.walks.specs.Routes.{CommonEnd, Meets, turns, Unturned, route_of};
 
 use crate::ends::{has_arrived, has_reached, judge};
-use crate::sides::{Side, alone, length_of, without_last};
-use crate::walks::{Walk, default_walk, directed_walk};
+use crate::sides::Side;
+use crate::walks::{DayLinks, Walk};
 use index::links::{has_link_to, is_target};
 use index::places::INDEX;
-use rules::{Join, Verdict, WalkEnd};
+use rules::{Join, Refusal, WalkEnd};
 
-// How the sides join and the CSDs that they name; or the number that refuses the chain, 0 where there is one.
+// How the sides join and the CSDs that they name.
 #[derive(Clone, Copy)]
-pub struct RouteFound {
-    pub refusal: u8,
+pub struct Route {
     pub join: Join,
     pub delivering: Side,
     pub receiving: Side,
 }
 
-pub fn joined(join: Join, delivering: Side, receiving: Side) -> RouteFound
-    ensures { route_of result ≡ sides join (named delivering) (named receiving) }
-{
-    RouteFound {
-        refusal: 0,
-        join,
-        delivering,
-        receiving,
+impl Route {
+    // Two sides that meet at the last CSD of both.
+    pub fn meeting(delivering: Side, receiving: Side) -> Route
+        ensures { route_of (Ok result) ≡ sides Join.Meeting (named delivering) (named receiving) }
+    {
+        Route {
+            join: Join::Meeting,
+            delivering,
+            receiving,
+        }
     }
 }
 
 // Two walks joined as their ends allow, or the refusal.
-pub fn by_ends(delivering: Walk, receiving: Walk) -> RouteFound
-    ensures { route_of result ≡ joined_by (judged delivering.end receiving.end) (named delivering.side) (named receiving.side) }
+pub fn by_ends(delivering: &Walk, receiving: &Walk) -> Result<Route, Refusal>
+    ensures { route_of result ≡ joined_by (judged delivering.now.end receiving.now.end) (named delivering.now.side) (named receiving.now.side) }
 {
-    let up = delivering.end;
-    let down = receiving.end;
-    match judge(up, down) {
-        Verdict::TwoIssuers => joined(Join::Issuers, delivering.side, receiving.side),
-        Verdict::TwoExternals => joined(Join::Externals, delivering.side, receiving.side),
-        Verdict::Apart(refusal) => RouteFound {
-            refusal,
-            join: Join::Meeting,
-            delivering: alone(0),
-            receiving: alone(0),
-        },
-    }
+    let join = judge(delivering.end, receiving.end)?;
+    Ok(Route {
+        join,
+        delivering: delivering.side,
+        receiving: receiving.side,
+    })
 }
 
 // How many CSDs two sides have in common at their ends.
-fn common_end(delivering: Side, receiving: Side) -> usize
-    ensures { CommonEnd (named delivering) (named receiving) result }
+fn common_end(delivering: &Side, receiving: &Side) -> usize
+    ensures { CommonEnd (named delivering.now) (named receiving.now) result }
 {
-    let up = delivering.csds;
-    let down = receiving.csds;
-    let m = length_of(delivering);
-    let n = length_of(receiving);
-    let mut k: usize = 0;
-    while k < m {
-        if n <= k {
+    let up = delivering.named();
+    let down = receiving.named();
+    let most = up.len().min(down.len());
+    for k in 0..most {
+        if up[up.len() - k - 1] != down[down.len() - k - 1] {
             return k;
         }
-        if up[m - k - 1] != down[n - k - 1] {
-            return k;
-        }
-        k += 1;
     }
-    k
+    most
 }
 
 // How many CSDs two default walks share, the first of them in T2S, if both end inside or outside; else 0. Walks that share a CSD go the same way from there
 // on, so that they share the CSDs at their ends, of which they have `common` in common.
-fn shared_csds(delivering: Walk, receiving: Walk, common: usize) -> usize
-    requires { CommonEnd (named delivering.side) (named receiving.side) common }
-    ensures { Meets delivering receiving result }
+fn shared_csds(delivering: &Walk, receiving: &Walk, common: usize) -> usize
+    requires { CommonEnd (named delivering.now.side) (named receiving.now.side) common }
+    ensures { Meets delivering.now receiving.now result }
 {
-    let up = delivering.end;
-    let down = receiving.end;
-    if !has_arrived(down) {
+    if !has_arrived(receiving.end) {
         return 0;
     }
-    match up {
+    match delivering.end {
         WalkEnd::Inside(_) => common,
         WalkEnd::Outside(_) => {
             if common == 1 {
@@ -94,126 +81,117 @@ fn shared_csds(delivering: Walk, receiving: Walk, common: usize) -> usize
             }
             common
         }
-        WalkEnd::NoLink => 0,
-        WalkEnd::TooLong => 0,
+        WalkEnd::NoLink | WalkEnd::TooLong => 0,
     }
 }
 
-// Whether a directed walk leaves a default one at the CSD: it is the target, or has a link to it; `linked` says whether any link for the security leads there.
-fn turns_at(index: &[u16; INDEX], security: u8, target: u8, linked: bool, csd: u8, day: u16) -> bool
-    requires { linked ≡ is_target index.now security target }
-    ensures { result ≡ turns (asked_on index.now day) security target csd }
-{
-    if csd == target {
-        return true;
-    }
-    if !linked {
-        return false;
-    }
-    has_link_to(index, security, csd, target, day)
-}
-
-// Whether it does at one of the CSDs of a side.
-fn turns_along(index: &[u16; INDEX], security: u8, target: u8, side: Side, day: u16) -> bool
-    ensures { result ≡ any (turns (asked_on index.now day) security target) (named side) }
-{
-    let csds = side.csds;
-    let n = length_of(side);
-    let linked = is_target(index, security, target);
-    let mut i: usize = 0;
-    while i < n {
-        if turns_at(index, security, target, linked, csds[i], day) {
+impl<'a> DayLinks<'a> {
+    // Whether a directed walk leaves a default one at the CSD: it is the target, or has a link to it; `linked` says whether any link for the security leads
+    // there.
+    #[tactic(auto, unfolding(index::specs::Asked::asked_by))]
+    fn turns_at(&self, target: u8, linked: bool, csd: u8) -> bool
+        requires { linked ≡ is_target self.now.index.now self.now.security target }
+        ensures { result ≡ turns (seen self.now) self.now.security target csd }
+    {
+        if csd == target {
             return true;
         }
-        i += 1;
+        if !linked {
+            return false;
+        }
+        has_link_to(self.index, self.security, csd, target, self.day)
     }
-    false
+
+    // Whether it does at one of the CSDs of a side.
+    fn turns_along(&self, target: u8, side: &Side) -> bool
+        ensures { result ≡ any (turns (seen self.now) self.now.security target) (named side.now) }
+    {
+        let linked = is_target(self.index, self.security, target);
+        side.named()
+            .iter()
+            .any(|csd| self.turns_at(target, linked, *csd))
+    }
+
+    // The directed walk from a CSD whose default walk is known: the same, unless it turns at one of its CSDs.
+    fn directed_from(&self, target: u8, csd: u8, walked: &Walk) -> Walk
+        requires { walk_of walked.now ≡ default_walk (seen self.now) self.now.security csd }
+        ensures { walk_of result ≡ directed_walk (seen self.now) self.now.security target csd }
+    {
+        if self.turns_along(target, &walked.side) {
+            return self.directed_walk(target, csd);
+        }
+        *walked
+    }
+
+    // Whether it is known at once that no directed walk leaves its default walk: both arrive, with no CSD in common, and no link for the security leads to
+    // either CSD. Default walks with no CSD in common at their ends have none.
+    fn none_turns(
+        &self,
+        from: u8,
+        to: u8,
+        delivering: &Walk,
+        receiving: &Walk,
+        common: usize,
+    ) -> bool
+        requires { (walk_of delivering.now ≡ default_walk (seen self.now) self.now.security from)
+            × (walk_of receiving.now ≡ default_walk (seen self.now) self.now.security to)
+            × CommonEnd (named delivering.now.side) (named receiving.now.side) common }
+        ensures { result ≡ true → Unturned (seen self.now) self.now.security from to delivering.now receiving.now }
+    {
+        if common != 0 {
+            return false;
+        }
+        if !has_arrived(delivering.end) {
+            return false;
+        }
+        if !has_arrived(receiving.end) {
+            return false;
+        }
+        if is_target(self.index, self.security, to) {
+            return false;
+        }
+        !is_target(self.index, self.security, from)
+    }
 }
 
-// The directed walk from a CSD whose default walk is known: the same, unless it turns at one of its CSDs.
-fn directed_from(
-    index: &[u16; INDEX],
-    security: u8,
-    target: u8,
-    csd: u8,
-    walked: Walk,
-    day: u16,
-) -> Walk
-    requires { walk_of walked ≡ default_walk (asked_on index.now day) security csd }
-    ensures { walk_of result ≡ directed_walk (asked_on index.now day) security target csd }
-{
-    if turns_along(index, security, target, walked.side, day) {
-        return directed_walk(index, security, target, csd, day);
-    }
-    walked
-}
-
-// Whether it is known at once that no directed walk leaves its default walk: both arrive, with no CSD in common, and no link for the security leads to
-// either CSD. Default walks with no CSD in common at their ends have none.
-fn none_turns(
+// The four cases of document 01 on the day, from the delivering CSD to the receiving one.
+pub fn route_of(
     index: &[u16; INDEX],
     security: u8,
     from: u8,
     to: u8,
-    delivering: Walk,
-    receiving: Walk,
-    common: usize,
     day: u16,
-) -> bool
-    requires { (walk_of delivering ≡ default_walk (asked_on index.now day) security from)
-        × (walk_of receiving ≡ default_walk (asked_on index.now day) security to)
-        × CommonEnd (named delivering.side) (named receiving.side) common }
-    ensures { result ≡ true → Unturned (asked_on index.now day) security from to delivering receiving }
-{
-    let up = delivering.end;
-    let down = receiving.end;
-    if common != 0 {
-        return false;
-    }
-    if !has_arrived(up) {
-        return false;
-    }
-    if !has_arrived(down) {
-        return false;
-    }
-    if is_target(index, security, to) {
-        return false;
-    }
-    !is_target(index, security, from)
-}
-
-// The four cases of document 01 on the day, from the delivering CSD to the receiving one.
-pub fn route_of(index: &[u16; INDEX], security: u8, from: u8, to: u8, day: u16) -> RouteFound
+) -> Result<Route, Refusal>
     ensures { route_of result ≡ route (asked_on index.now day) security from to }
 {
     if from == to {
-        return joined(Join::Meeting, alone(from), alone(to));
+        return Ok(Route::meeting(Side::alone(from), Side::alone(to)));
     }
-    let delivering = default_walk(index, security, from, day);
-    let receiving = default_walk(index, security, to, day);
-    let common = common_end(delivering.side, receiving.side);
-    let shared = shared_csds(delivering, receiving, common);
+    let links = DayLinks {
+        index,
+        security,
+        day,
+    };
+    let delivering = links.default_walk(from);
+    let receiving = links.default_walk(to);
+    let common = common_end(&delivering.side, &receiving.side);
+    let shared = shared_csds(&delivering, &receiving, common);
     if 0 < shared {
-        return joined(
-            Join::Meeting,
-            without_last(delivering.side, shared - 1),
-            without_last(receiving.side, shared - 1),
-        );
+        return Ok(Route::meeting(
+            delivering.side.without_last(shared - 1),
+            receiving.side.without_last(shared - 1),
+        ));
     }
-    if none_turns(
-        index, security, from, to, delivering, receiving, common, day,
-    ) {
-        return by_ends(delivering, receiving);
+    if links.none_turns(from, to, &delivering, &receiving, common) {
+        return by_ends(&delivering, &receiving);
     }
-    let towards = directed_from(index, security, to, from, delivering, day);
-    let end = towards.end;
-    if has_reached(to, end) {
-        return joined(Join::Meeting, towards.side, alone(to));
+    let towards = links.directed_from(to, from, &delivering);
+    if has_reached(to, towards.end) {
+        return Ok(Route::meeting(towards.side, Side::alone(to)));
     }
-    let back = directed_from(index, security, from, to, receiving, day);
-    let end = back.end;
-    if has_reached(from, end) {
-        return joined(Join::Meeting, alone(from), back.side);
+    let back = links.directed_from(from, to, &receiving);
+    if has_reached(from, back.end) {
+        return Ok(Route::meeting(Side::alone(from), back.side));
     }
-    by_ends(delivering, receiving)
+    by_ends(&delivering, &receiving)
 }

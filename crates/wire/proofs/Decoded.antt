@@ -11,7 +11,7 @@ use Rattle.rules.specs.Booking.{incoming, outgoing}
 use Rattle.rules.specs.Calls.{enter, move, pay}
 use Rattle.rules.specs.Stream.{widths, former_tag, width_of, call_of, csd_at, security_at, account_at, pair_at, link_at}
 use Rattle.wire.specs.Operands.{csd_in, security_in, move_in, payment_in}
-use Rattle.wire.proofs.Padded.{padded_is}
+use Rattle.wire.specs.Padded.{padded_is}
 use Rattle.wire.proofs.Widths.{no_width}
 
 pub csd_is_lem : (o : List ℕ) → 12 ≤ length o → csd_row (csd_in o) ≡ csd_at o

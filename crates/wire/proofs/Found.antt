@@ -12,9 +12,7 @@ use lib.Seq.{drop-cons, drop-drop, length-take-le}
 use borrow.Author.Tests.{lt-ltb, le-ltb, ltb-false}
 use Rattle.rules.specs.Stream as Rules
 use Rattle.rules.specs.Stream.{next_of, by_width, width_of, ended, unknown, cut, command}
-use Rattle.wire.specs.declared.commands.Next.TheVariants.{End, Unknown, Cut, Command}
-use Rattle.wire.specs.declared.commands.Width.TheVariants.{Bytes, NoCommand}
-use Rattle.wire.specs.Commands.{width_in, placed, next_at}
+use Rattle.wire.specs.Commands.{End, Unknown, Cut, Command, placed, next_at}
 
 -- two different answers are never the same
 never : {A : Type 0} → ◌≡◌ {A = ℕ} 0 1 → A
@@ -26,14 +24,6 @@ pub finds_end : (s : List ℕ) (at : ℕ) → length s ≤ at → next_at s at �
 unfolding next_of
 finds_end s at h = rw (drop_of_length-le s h)
 
-none_in : (x : Option ℕ) → width_in x ≡ NoCommand → x ≡ none
-none_in none e = refl
-none_in (some w) e = never (cc)
-
-some_in : (x : Option ℕ) (w : ℕ) → width_in x ≡ Bytes w → x ≡ some w
-some_in none w e = never (cc)
-some_in (some v) w e = cc
-
 module _ (s : List ℕ) (at : ℕ) (h : at < length s) where
   -- the byte there, and the bytes behind it
   byte_there : next_of (drop at s) ≡ by_width (get_or s at 0) (drop (suc at) s) (width_of (get_or s at 0))
@@ -43,16 +33,16 @@ module _ (s : List ℕ) (at : ℕ) (h : at < length s) where
   left : length (drop (suc at) s) ≡ length s - (at + 1)
   left = omega (arith, length-drop (suc at) s)
 
-  pub finds_unknown : width_in (width_of (get_or s at 0)) ≡ NoCommand → next_at s at ≡ Unknown
-  finds_unknown e = rw (byte_there, none_in (width_of (get_or s at 0)) e)
+  pub finds_unknown : width_of (get_or s at 0) ≡ none → next_at s at ≡ Unknown
+  finds_unknown e = rw (byte_there, e)
 
-  module _ (w : ℕ) (e : width_in (width_of (get_or s at 0)) ≡ Bytes w) where
+  module _ (w : ℕ) (e : width_of (get_or s at 0) ≡ some w) where
     pub finds_cut : length s - (at + 1) < w → next_at s at ≡ Cut
-    finds_cut k = rw (byte_there, some_in (width_of (get_or s at 0)) w e, left, lt-ltb (length s - (at + 1)) w k)
+    finds_cut k = rw (byte_there, e, left, lt-ltb (length s - (at + 1)) w k)
 
     pub finds_command : w ≤ length s - (at + 1) → next_at s at ≡ Command (get_or s at 0) (at + 1) (at + 1 + w)
     finds_command k =
-        rw (byte_there, some_in (width_of (get_or s at 0)) w e, left, le-ltb (length s - (at + 1)) w k, length-take-le w (drop (suc at) s) (omega (arith, left)))
+        rw (byte_there, e, left, le-ltb (length s - (at + 1)) w k, length-take-le w (drop (suc at) s) (omega (arith, left)))
 
 -- ---- from the answer to what the rules find
 

@@ -1,5 +1,4 @@
-pub mod Numbers
-pub mod Padded
+pub mod Parts
 pub mod Widths
 pub mod Found
 pub mod Decoded

@@ -3,13 +3,10 @@ use mathlib.Core.Path.{◌≡◌, refl, ◌∙◌}
 use mathlib.Core.Logic.{◌≢◌}
 use Prim.Native.Nat.{ℕ, zero, suc, ◌-◌, ◌≤◌, ◌<◌}
 use native.Mathlib.Omega.{arith}
-use mathlib.Core.Bool.{Bool, true, ◌&&◌}
 use mathlib.Core.List.{List, [], ◌∷◌}
-use lib.Dec.{ltb}
 use mathlib.Core.Option.{none, some}
 use lib.ListN.{length, get_or, get_elem?}
-use borrow.Author.Tests.{ne_eqb, ltb-true}
-use Rattle.rules.proofs.Basics.{and_both}
+use borrow.Author.Tests.{ne_eqb}
 use Rattle.rules.specs.Stream.{widths, former_tag, width_of}
 
 entry_at : (xs : List ℕ) (n : ℕ) → n < length xs → get_elem? xs n ≡ some (get_or xs n 0)
@@ -21,19 +18,6 @@ no_entry : (xs : List ℕ) (n : ℕ) → length xs ≤ n → get_elem? xs n ≡ 
 no_entry [] n h = refl
 no_entry (x ∷ xs) zero h = absurd (omega arith)
 no_entry (x ∷ xs) (suc n) h = no_entry xs n (omega arith)
-
--- every entry is a byte
-abbrev bytes_all : List ℕ → Bool
-bytes_all [] = true
-bytes_all (x ∷ xs) = ltb x 256 && bytes_all xs
-
-byte_in : (xs : List ℕ) (n : ℕ) → bytes_all xs ≡ true → get_or xs n 0 < 256
-byte_in [] n e = omega arith
-byte_in (x ∷ xs) zero e = ltb-true x 256 (and_both (ltb x 256) (bytes_all xs) e).0
-byte_in (x ∷ xs) (suc n) e = byte_in xs n (and_both (ltb x 256) (bytes_all xs) e).1
-
-pub width_small : (n : ℕ) → get_or widths n 0 < 256
-width_small n = byte_in widths n refl
 
 module _ (tag : ℕ) (h : tag ≢ 0) (f : tag ≢ former_tag) where
   one_less : width_of tag ≡ get_elem? widths (tag - 1)

@@ -1,17 +1,16 @@
--- With n less, the size of a number below 0 and n add up; else they are set against each other.
-use mathlib.Core.Path.{◌∙◌}
+-- The difference stops at the ends of i64, which are beyond.
+use mathlib.Core.Path.{ap, ◌∙◌}
 use mir.Facts.{to_z-of_z}
-use Rattle.amounts.proofs.Sizes.{less_of_below, less_of_count}
+use mir.Syntax.{w64}
+use mir.Val.{SFits}
+use lib.IntN.{pos, neg_ℤ, ◌+ℤ◌}
+use Rattle.rules.specs.Booking.{beyond}
+use Rattle.amounts.proofs.Saturated.{saturated_beyond}
 use Rattle.amounts.proofs.less_beyond.Goals as goal
-
-pub returns-then-x-lt0 : goal.returns-then-x-lt0
-returns-then-x-lt0 c =
-    let f = c.ranges.x in
-    simp (c.magnitude-size.ensures, to_z-of_z) at c.together_beyond.ensures
-    ∙ less_of_below c.args.x (simp to_z-of_z at c.if-x-lt0.true) c.args.n
 
 pub returns : goal.returns
 returns c =
     let f = c.ranges.x in
-    simp (c.magnitude-size.ensures, to_z-of_z) at c.apart_beyond.ensures
-    ∙ less_of_count c.args.x (simp to_z-of_z at c.if-x-lt0.false) c.args.n
+    let t : SFits w64 c.saturating_sub_unsigned.result = record { sfits = c.saturating_sub_unsigned.type_inv } in
+    simp to_z-of_z at c.is_beyond.ensures
+    ∙ (ap beyond (simp to_z-of_z at c.saturating_sub_unsigned.ensures) ∙ saturated_beyond (c.args.x +ℤ neg_ℤ (pos c.args.n)))

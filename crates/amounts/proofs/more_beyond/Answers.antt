@@ -1,17 +1,16 @@
--- With n more, the size of a number below 0 and n are set against each other; else they add up.
-use mathlib.Core.Path.{◌∙◌}
+-- The sum stops at the ends of i64, which are beyond.
+use mathlib.Core.Path.{ap, ◌∙◌}
 use mir.Facts.{to_z-of_z}
-use Rattle.amounts.proofs.Sizes.{more_of_below, more_of_count}
+use mir.Syntax.{w64}
+use mir.Val.{SFits}
+use lib.IntN.{pos, ◌+ℤ◌}
+use Rattle.rules.specs.Booking.{beyond}
+use Rattle.amounts.proofs.Saturated.{saturated_beyond}
 use Rattle.amounts.proofs.more_beyond.Goals as goal
-
-pub returns-then-x-lt0 : goal.returns-then-x-lt0
-returns-then-x-lt0 c =
-    let f = c.ranges.x in
-    simp (c.magnitude-size.ensures, to_z-of_z) at c.apart_beyond.ensures
-    ∙ more_of_below c.args.x (simp to_z-of_z at c.if-x-lt0.true) c.args.n
 
 pub returns : goal.returns
 returns c =
     let f = c.ranges.x in
-    simp (c.magnitude-size.ensures, to_z-of_z) at c.together_beyond.ensures
-    ∙ more_of_count c.args.x (simp to_z-of_z at c.if-x-lt0.false) c.args.n
+    let t : SFits w64 c.saturating_add_unsigned.result = record { sfits = c.saturating_add_unsigned.type_inv } in
+    simp to_z-of_z at c.is_beyond.ensures
+    ∙ (ap beyond (simp to_z-of_z at c.saturating_add_unsigned.ensures) ∙ saturated_beyond (c.args.x +ℤ pos c.args.n))

@@ -1,11 +1,13 @@
--- `ending::put_ending` meets its contract: the totals, then the cash. Assumes nothing.
-use mathlib.Core.Path.{ap}
+-- The totals, then the cash.
+use mathlib.Core.Path.{ap, ◌∙◌}
 use Rattle.rules.specs.Stream.{cash_line}
 use Rattle.text.proofs.Appends.{then, named}
 use Rattle.ending.specs.Ending.{ending_in}
+use Rattle.ending.proofs.Totals.{cents_or}
 use Rattle.ending.proofs.put_ending.Goals as goal
 
 pub returns : goal.returns
 unfolding ending_in
 returns c =
-    then c.put_totals-totals.ensures (named (ap cash_line c.cents_of.ensures) c.put_cash.ensures)
+    let sum = c.unwrap_or-sum.ensures ∙ cents_or _ _ c.cash_total.ensures in
+    then c.put_totals-totals.ensures (named (ap cash_line sum) c.put_cash.ensures)

@@ -1,5 +1,4 @@
 -- `stream::run` meets its contract: the text so far, followed by the lines of the rest, is the whole text. Assumes nothing.
-use Rattle.rules.specs.Calls.{zeros}
 use Rattle.stream.proofs.Going.{running_start, runs_on, less_left, prints_all, prints_long, refuses_short}
 use Rattle.stream.proofs.run.Goals as goal
 
@@ -12,8 +11,7 @@ returns-then-input-gt-INPUT c =
     prints_long a.input.now a.output.now _ _ c.if-input-gt-INPUT.true c.if-output-lt-ROOM.false c.put_word.ensures
 
 pub loop-at-init : goal.loop-at-init
-unfolding zeros
-loop-at-init c = let a = c.args in running_start a.input.now a.output.now
+loop-at-init c = let a = c.args in rw c.nothing-held.ensures (running_start a.input.now a.output.now)
 
 pub loop-at-smaller : goal.loop-at-smaller
 loop-at-smaller c =

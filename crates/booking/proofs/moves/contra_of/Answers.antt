@@ -1,7 +1,6 @@
 -- The issuance account of an issuer, else what the default link gives.
-use mathlib.Core.Path.{sym, ap, ◌∙◌}
+use Rattle.std.proofs.Common.{sym, ap, ◌∙◌, Some}
 use Rattle.index.specs.Asked.{asked_on}
-use Rattle.booking.specs.declared.moves.Contra.TheVariants.{At}
 use Rattle.booking.specs.Moves.{contra_found}
 use Rattle.booking.proofs.Contras.{contra_issued, contra_led, contra_lacking}
 use Rattle.booking.proofs.Days.{inter_csd_on}
@@ -12,7 +11,7 @@ unfolding contra_found
 returns-in-Issuer c =
     let a = c.args in
     rw (contra_issued (asked_on a.index.now a.day) a.security a.csd a.account (sym c.leading_at.ensures ∙ c.in-Issuer.is))
-    (ap At c.issuance_of.ensures)
+    (ap Some c.issuance_of.ensures)
 
 pub returns-in-To : goal.returns-in-To
 returns-in-To c =

@@ -1,25 +1,14 @@
 -- Whether the technical issuer is outside, and the pair for it, as each look-up found them.
-use mathlib.Core.Path.{sym, ◌∙◌}
-use Rattle.index.proofs.Found.{pair_row_lem, pair_missing}
+use Rattle.std.proofs.Common.{sym, ◌∙◌, rules}
+use Rattle.booking.proofs.Contras.{mirror_found}
 use Rattle.booking.specs.Moves.{contra_found}
 use Rattle.booking.proofs.moves.inter_csd.Goals as goal
 
-pub returns-in-Row : goal.returns-in-Row
+pub returns-then-not-is_external : goal.returns-then-not-is_external
 unfolding contra_found
-returns-in-Row c =
-    rw (
-      sym c.is_external.ensures ∙ c.if-is_external.true,
-      pair_row_lem _ _ (sym c.pair_of.ensures ∙ c.in-Row.is),
-    )
-
-pub returns-in-Missing : goal.returns-in-Missing
-unfolding contra_found
-returns-in-Missing c =
-    rw (
-      sym c.is_external.ensures ∙ c.if-is_external.true,
-      pair_missing _ (sym c.pair_of.ensures ∙ c.in-Missing.is),
-    )
+returns-then-not-is_external c = rw (sym c.is_external.ensures ∙ c.if-not-is_external.true)
 
 pub returns : goal.returns
-unfolding contra_found
-returns c = rw (sym c.is_external.ensures ∙ c.if-is_external.false)
+returns c =
+    rw (sym c.is_external.ensures ∙ c.if-not-is_external.false)
+    (mirror_found _ c.map.result (rw (← c.pair_of.ensures) (search rules)))

@@ -4,6 +4,7 @@ use mathlib.Core.Path.{sym, ◌∙◌}
 use mir.Facts.{to_z-of_z}
 use mir.Syntax.{w64}
 use mir.Val.{SFits}
+use Rattle.std.proofs.lemmas.Result.{err_from_is_err_and}
 use Rattle.rules.specs.Booking.{payment}
 use Rattle.index.specs.Asked.{asked}
 use Rattle.booking.specs.Moves.{way_of}
@@ -11,19 +12,18 @@ use Rattle.booking.proofs.Paid.{cash_fits, payment_signed, pay_refused, pay_done
 use Rattle.booking.proofs.Refused.{pay_open}
 use Rattle.booking.proofs.payments.move_cash.Goals as goal
 
-pub returns-then-refusal-ne0 : goal.returns-then-refusal-ne0
-returns-then-refusal-ne0 c =
+pub returns-in_err-pay_refusal : goal.returns-in_err-pay_refusal
+returns-in_err-pay_refusal c =
     let a = c.args in
-    let r = pay_refused (asked a.index.now) a.cash.now (way_of a.incoming) a.account a.amount
-    c.pay_refusal-refusal.result c.pay_refusal-refusal.ensures c.if-refusal-ne0.true in
-    record { answer = r.0; cash = r.1 }
+    let p = err_from_is_err_and c.from_residual.result c.from_residual.ensures.1 in
+    let r = pay_refused (asked a.index.now) a.cash.now (way_of a.incoming) a.account a.amount c.in_err-pay_refusal.field-0.0 c.in_err-pay_refusal.ensures in
+    rw (p.1, p.2) (record { answer = r.0; cash = r.1 })
 
 pub add_cents-requires : goal.add_cents-requires
 add_cents-requires c =
     let a = c.args in
     let f : SFits w64 c.signed.result = sfits_of c.signed.type_inv in
-    let none = sym c.pay_refusal-refusal.ensures ∙ c.if-refusal-ne0.false in
-    let within = (pay_open (asked a.index.now) a.cash.now (way_of a.incoming) a.account a.amount none).1 in
+    let within = (pay_open (asked a.index.now) a.cash.now (way_of a.incoming) a.account a.amount (sym c.in_ok-pay_refusal.ensures)).1 in
     let fits = cash_fits a.cash.now a.account (payment (way_of a.incoming) a.amount) within in
     simp to_z-of_z (rw c.signed.ensures (rw (← payment_signed a.incoming a.amount) at fits))
 
@@ -32,6 +32,5 @@ returns c =
     let a = c.args in
     let f : SFits w64 c.signed.result = sfits_of c.signed.type_inv in
     let added = simp (c.signed.ensures, payment_signed) at (simp to_z-of_z at c.add_cents.ensures) in
-    let r = pay_done (asked a.index.now) a.cash.now (way_of a.incoming) a.account a.amount
-    c.pay_refusal-refusal.result c.pay_refusal-refusal.ensures c.if-refusal-ne0.false in
+    let r = pay_done (asked a.index.now) a.cash.now (way_of a.incoming) a.account a.amount c.in_ok-pay_refusal.ensures in
     record { answer = r.0; cash = added ∙ r.1 }

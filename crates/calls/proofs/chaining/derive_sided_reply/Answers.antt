@@ -1,9 +1,14 @@
--- The halves put in order.
+-- The halves as they are given.
+use mathlib.Core.Path.{◌∙◌}
 use Rattle.rules.specs.Calls.{sided}
-use Rattle.chain.proofs.Deriving.{handed_in_order}
 use Rattle.calls.proofs.chaining.derive_sided_reply.Goals as goal
 
 pub derived-requires : goal.derived-requires
 derived-requires c =
     let a = c.args in
-    (sided a.first a.second, handed_in_order (sided a.first a.second) c.in_order-pair.result c.in_order-pair.ensures)
+    (sided a.first a.second, c.in_order-pair.ensures)
+
+pub returns : goal.returns
+returns c =
+    let a = c.args in
+    c.replied.ensures ∙ c.derived.ensures (sided a.first a.second) c.in_order-pair.ensures

@@ -1,26 +1,43 @@
 -- 3 and 4 first; else the stream's derivation, its steps laid out.
-use mathlib.Core.Path.{◌∙◌}
-use Rattle.chain.proofs.Deriving.{handed_derives}
-use Rattle.calls.proofs.Admitted.{nothing_kept_lem}
-use Rattle.calls.proofs.Decided.{derivation_refused, derivation_few, derivation_passed}
+use mathlib.Core.Path.{refl}
+use Rattle.std.proofs.lemmas.Result.{err_from_is_err_and}
+use Rattle.rules.specs.Numbers.{number}
+use Rattle.rules.proofs.Numbered.{number_ne0}
+use Rattle.rules.specs.Outcomes.{derivation_on, blanks}
+use Rattle.refusals.specs.Kept.{nothing_kept}
+use Rattle.calls.proofs.Admitted.{admits, refuses}
+use Rattle.chain.proofs.Deriving.{handed_in_order, handed_derives}
+use Rattle.calls.proofs.Decided.{refusal_replied, derivation_refused, derivation_few, derivation_answered, derivation_passed}
 use Rattle.calls.proofs.chaining.derived.Goals as goal
 
-pub early_refusal-number-requires : goal.early_refusal-number-requires
-early_refusal-number-requires c = nothing_kept_lem
-
-pub returns-then-number-ne0 : goal.returns-then-number-ne0
-returns-then-number-ne0 c =
+pub returns-in_err-kept : goal.returns-in_err-kept
+returns-in_err-kept c =
     let a = c.args in
-    λ hs handed. c.refused.ensures ∙ derivation_refused a.directory a.lent hs a.day _ _ c.early_refusal-number.ensures c.if-number-ne0.true
+    λ hs e.
+    let n = c.in_err-kept.field-0.0 in
+    let p = err_from_is_err_and c.from_residual.result c.from_residual.ensures.1 in
+    rw (p.1, p.2) (derivation_refused a.directory a.lent hs a.day (number n) nothing_kept (refuses n c.in_err-kept.ensures.number) (number_ne0 n))
 
-pub replied-requires : goal.replied-requires
-replied-requires c =
+pub returns-in_err-count : goal.returns-in_err-count
+returns-in_err-count c =
     let a = c.args in
-    derivation_few a.directory a.lent c.requires.0 a.day _ _ c.early_refusal-number.ensures c.if-number-ne0.false _ _ (handed_derives c.requires.1 _ _ _ _ c.derive-answer.ensures)
+    λ hs e.
+    let p = err_from_is_err_and c.from_residual-in_err-count.result c.from_residual-in_err-count.ensures.1 in
+    rw (p.1, p.2)
+    (refusal_replied (derivation_on a.directory (blanks a.lent) hs a.day) (number c.in_err-count.field-0.0)
+    (derivation_answered a.directory a.lent hs a.day 0 c.in_ok-kept.kept (admits c.in_ok-kept.ensures.number c.in_ok-kept.ensures.keeps) refl _ _
+    (handed_derives (handed_in_order hs a.halves e) _ _ _ _ c.in_err-count.ensures)))
+
+pub laid_out-requires : goal.laid_out-requires
+laid_out-requires c =
+    let a = c.args in
+    derivation_few a.directory a.lent c.requires.0 a.day 0 c.in_ok-kept.kept (admits c.in_ok-kept.ensures.number c.in_ok-kept.ensures.keeps) refl _ _
+    (handed_derives (handed_in_order c.requires.0 a.halves c.requires.1) _ _ _ _ c.in_ok-count.ensures)
 
 pub returns : goal.returns
 returns c =
     let a = c.args in
-    λ hs handed.
-    c.replied.ensures
-    ∙ derivation_passed a.directory a.lent hs a.day _ _ c.early_refusal-number.ensures c.if-number-ne0.false _ _ (handed_derives handed _ _ _ _ c.derive-answer.ensures)
+    λ hs e.
+    rw c.laid_out.ensures
+    (derivation_passed a.directory a.lent hs a.day 0 c.in_ok-kept.kept (admits c.in_ok-kept.ensures.number c.in_ok-kept.ensures.keeps) refl _ _
+    (handed_derives (handed_in_order hs a.halves e) _ _ _ _ c.in_ok-count.ensures))

@@ -1,5 +1,4 @@
--- The loop's invariant: the first i steps are stored on blank rows.
-use Prim.Native.Nat.{◌≤◌, ◌-◌}
+-- The first i steps are stored on blank rows.
 use mathlib.Core.Path.{◌≡◌}
 use Rattle.rules.specs.Chain.{step_limit}
 use Rattle.chain.specs.StepList.{step_at}
@@ -8,7 +7,4 @@ use Rattle.calls.proofs.Stored.{stored}
 use Rattle.calls.proofs.chaining.laid_out.Given as goal
 
 abbrev pub invariant-loop-i : goal.invariant-loop-i
-invariant-loop-i l = (l.i ≤ l.n) × (l.rows ≡ stored (step_at l.numbers) l.i (blanks step_limit))
-
-abbrev pub decreases-loop-i : goal.decreases-loop-i
-decreases-loop-i l = l.n - l.i
+invariant-loop-i l = l.rows ≡ stored (step_at l.numbers) l.i (blanks step_limit)

@@ -1,28 +1,86 @@
 -- 3 and 4 first; else the stream's settlement, its steps laid out.
-use mathlib.Core.Path.{◌∙◌}
+use mathlib.Core.Path.{refl}
+use Rattle.std.proofs.lemmas.Result.{err_from_is_err_and}
+use Rattle.rules.specs.Numbers.{number}
+use Rattle.rules.proofs.Numbered.{number_ne0}
+use Rattle.rules.specs.Outcomes.{settlement_on, blanks}
+use Rattle.refusals.specs.Kept.{nothing_kept}
+use Rattle.calls.proofs.Admitted.{admits, refuses}
+use Rattle.chain.proofs.Deriving.{handed_in_order}
 use Rattle.booking.proofs.Settled.{handed_settles}
-use Rattle.calls.proofs.Admitted.{nothing_kept_lem}
-use Rattle.calls.proofs.Decided.{settlement_refused, settlement_few, settlement_passed}
+use Rattle.calls.proofs.Decided.{refusal_replied, settlement_refused, settlement_few, settlement_answered, settlement_passed}
 use Rattle.calls.proofs.chaining.settled.Goals as goal
 
-pub early_refusal-number-requires : goal.early_refusal-number-requires
-early_refusal-number-requires c = nothing_kept_lem
-
-pub returns-then-number-ne0 : goal.returns-then-number-ne0
-returns-then-number-ne0 c =
+pub returns-in_err-kept-clause-reply : goal.returns-in_err-kept-clause-reply
+returns-in_err-kept-clause-reply c =
     let a = c.args in
-    λ hs handed.
-    let s = settlement_refused a.directory a.positions.now a.cash.now a.lent hs a.day _ _ c.early_refusal-number.ensures c.if-number-ne0.true in
-    (c.refused.ensures ∙ s.0, s.1, s.2)
+    λ hs e.
+    let n = c.in_err-kept.field-0.0 in
+    let p = err_from_is_err_and c.from_residual.result c.from_residual.ensures.1 in
+    rw (p.1, p.2) (settlement_refused a.directory a.positions.now a.cash.now a.lent hs a.day (number n) nothing_kept (refuses n c.in_err-kept.ensures.number) (number_ne0 n)).0
 
-pub replied-requires : goal.replied-requires
-replied-requires c =
+pub returns-in_err-kept-clause-positions : goal.returns-in_err-kept-clause-positions
+returns-in_err-kept-clause-positions c =
     let a = c.args in
-    settlement_few a.directory a.positions.now a.cash.now a.lent c.requires.0 a.day _ _ c.early_refusal-number.ensures c.if-number-ne0.false _ _ _ _ (handed_settles c.requires.1 _ _ _ _ _ _ _ _ c.settle-answer.ensures)
+    λ hs e.
+    let n = c.in_err-kept.field-0.0 in
+    (settlement_refused a.directory a.positions.now a.cash.now a.lent hs a.day (number n) nothing_kept (refuses n c.in_err-kept.ensures.number) (number_ne0 n)).1
 
-pub returns : goal.returns
-returns c =
+pub returns-in_err-kept-clause-cash : goal.returns-in_err-kept-clause-cash
+returns-in_err-kept-clause-cash c =
     let a = c.args in
-    λ hs handed.
-    let s = settlement_passed a.directory a.positions.now a.cash.now a.lent hs a.day _ _ c.early_refusal-number.ensures c.if-number-ne0.false _ _ _ _ (handed_settles handed _ _ _ _ _ _ _ _ c.settle-answer.ensures) in
-    (c.replied.ensures ∙ s.0, s.1, s.2)
+    λ hs e.
+    let n = c.in_err-kept.field-0.0 in
+    (settlement_refused a.directory a.positions.now a.cash.now a.lent hs a.day (number n) nothing_kept (refuses n c.in_err-kept.ensures.number) (number_ne0 n)).2
+
+pub returns-in_err-count-clause-reply : goal.returns-in_err-count-clause-reply
+returns-in_err-count-clause-reply c =
+    let a = c.args in
+    λ hs e.
+    let p = err_from_is_err_and c.from_residual-in_err-count.result c.from_residual-in_err-count.ensures.1 in
+    rw (p.1, p.2)
+    (refusal_replied (settlement_on a.directory a.positions.now a.cash.now (blanks a.lent) hs a.day) (number c.in_err-count.field-0.0)
+    (settlement_answered a.directory a.positions.now a.cash.now a.lent hs a.day 0 c.in_ok-kept.kept (admits c.in_ok-kept.ensures.number c.in_ok-kept.ensures.keeps) refl _ _ _ _
+    (handed_settles (handed_in_order hs a.halves e) _ _ _ _ _ _ _ _ c.in_err-count.ensures)))
+
+pub returns-in_err-count-clause-positions : goal.returns-in_err-count-clause-positions
+returns-in_err-count-clause-positions c =
+    let a = c.args in
+    λ hs e.
+    (settlement_passed a.directory a.positions.now a.cash.now a.lent hs a.day 0 c.in_ok-kept.kept (admits c.in_ok-kept.ensures.number c.in_ok-kept.ensures.keeps) refl _ _ _ _
+    (handed_settles (handed_in_order hs a.halves e) _ _ _ _ _ _ _ _ c.in_err-count.ensures)).1
+
+pub returns-in_err-count-clause-cash : goal.returns-in_err-count-clause-cash
+returns-in_err-count-clause-cash c =
+    let a = c.args in
+    λ hs e.
+    (settlement_passed a.directory a.positions.now a.cash.now a.lent hs a.day 0 c.in_ok-kept.kept (admits c.in_ok-kept.ensures.number c.in_ok-kept.ensures.keeps) refl _ _ _ _
+    (handed_settles (handed_in_order hs a.halves e) _ _ _ _ _ _ _ _ c.in_err-count.ensures)).2
+
+pub laid_out-requires : goal.laid_out-requires
+laid_out-requires c =
+    let a = c.args in
+    settlement_few a.directory a.positions.now a.cash.now a.lent c.requires.0 a.day 0 c.in_ok-kept.kept (admits c.in_ok-kept.ensures.number c.in_ok-kept.ensures.keeps) refl _ _ _ _
+    (handed_settles (handed_in_order c.requires.0 a.halves c.requires.1) _ _ _ _ _ _ _ _ c.in_ok-count.ensures)
+
+pub returns-clause-reply : goal.returns-clause-reply
+returns-clause-reply c =
+    let a = c.args in
+    λ hs e.
+    rw c.laid_out.ensures
+    (settlement_passed a.directory a.positions.now a.cash.now a.lent hs a.day 0 c.in_ok-kept.kept (admits c.in_ok-kept.ensures.number c.in_ok-kept.ensures.keeps) refl _ _ _ _
+    (handed_settles (handed_in_order hs a.halves e) _ _ _ _ _ _ _ _ c.in_ok-count.ensures)).0
+
+pub returns-clause-positions : goal.returns-clause-positions
+returns-clause-positions c =
+    let a = c.args in
+    λ hs e.
+    (settlement_passed a.directory a.positions.now a.cash.now a.lent hs a.day 0 c.in_ok-kept.kept (admits c.in_ok-kept.ensures.number c.in_ok-kept.ensures.keeps) refl _ _ _ _
+    (handed_settles (handed_in_order hs a.halves e) _ _ _ _ _ _ _ _ c.in_ok-count.ensures)).1
+
+pub returns-clause-cash : goal.returns-clause-cash
+returns-clause-cash c =
+    let a = c.args in
+    λ hs e.
+    (settlement_passed a.directory a.positions.now a.cash.now a.lent hs a.day 0 c.in_ok-kept.kept (admits c.in_ok-kept.ensures.number c.in_ok-kept.ensures.keeps) refl _ _ _ _
+    (handed_settles (handed_in_order hs a.halves e) _ _ _ _ _ _ _ _ c.in_ok-count.ensures)).2

@@ -1,18 +1,33 @@
 -- 3 and 4 first; else what the stream's function answers and leaves over the index.
+use mathlib.Core.Path.{refl}
+use Rattle.std.proofs.lemmas.Result.{err_from_is_err_and}
+use Rattle.rules.specs.Numbers.{number}
+use Rattle.rules.proofs.Numbered.{number_ne0}
+use Rattle.refusals.specs.Kept.{nothing_kept}
+use Rattle.calls.proofs.Admitted.{admits, refuses}
 use Rattle.booking.specs.Moves.{way_of}
-use Rattle.calls.proofs.Admitted.{nothing_kept_lem}
 use Rattle.calls.proofs.Decided.{payment_refused, payment_passed}
 use Rattle.calls.proofs.moving.payment.Goals as goal
 
-pub early_refusal-number-requires : goal.early_refusal-number-requires
-early_refusal-number-requires c = nothing_kept_lem
-
-pub returns-then-number-ne0 : goal.returns-then-number-ne0
-returns-then-number-ne0 c =
+pub returns-in_err-kept-clause-answer : goal.returns-in_err-kept-clause-answer
+returns-in_err-kept-clause-answer c =
     let a = c.args in
-    payment_refused a.directory a.cash.now (way_of a.incoming) a.account a.amount _ _ c.early_refusal-number.ensures c.if-number-ne0.true
+    let e = c.in_err-kept.field-0.0 in
+    let p = err_from_is_err_and c.from_residual.result c.from_residual.ensures.1 in
+    rw (p.1, p.2) (payment_refused a.directory a.cash.now (way_of a.incoming) a.account a.amount (number e) nothing_kept (refuses e c.in_err-kept.ensures.number) (number_ne0 e)).0
 
-pub returns : goal.returns
-returns c =
+pub returns-in_err-kept-clause-cash : goal.returns-in_err-kept-clause-cash
+returns-in_err-kept-clause-cash c =
     let a = c.args in
-    payment_passed a.directory a.cash.now (way_of a.incoming) a.account a.amount _ _ c.early_refusal-number.ensures c.if-number-ne0.false _ _ c.move_cash.ensures.answer c.move_cash.ensures.cash
+    let e = c.in_err-kept.field-0.0 in
+    (payment_refused a.directory a.cash.now (way_of a.incoming) a.account a.amount (number e) nothing_kept (refuses e c.in_err-kept.ensures.number) (number_ne0 e)).1
+
+pub returns-clause-answer : goal.returns-clause-answer
+returns-clause-answer c =
+    let a = c.args in
+    (payment_passed a.directory a.cash.now (way_of a.incoming) a.account a.amount 0 c.in_ok-kept.kept (admits c.in_ok-kept.ensures.number c.in_ok-kept.ensures.keeps) refl _ _ c.move_cash.ensures.answer c.move_cash.ensures.cash).0
+
+pub returns-clause-cash : goal.returns-clause-cash
+returns-clause-cash c =
+    let a = c.args in
+    (payment_passed a.directory a.cash.now (way_of a.incoming) a.account a.amount 0 c.in_ok-kept.kept (admits c.in_ok-kept.ensures.number c.in_ok-kept.ensures.keeps) refl _ _ c.move_cash.ensures.answer c.move_cash.ensures.cash).1

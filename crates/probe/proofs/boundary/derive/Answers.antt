@@ -11,7 +11,7 @@ pub returns-then-bytes-end : goal.returns-then-bytes-end
 returns-then-bytes-end c =
     let a = c.args in
     derive_cut a.counts.now a.rows.now (omega (arith, c.if-counts-ne-COUNTS.false)) (omega (arith, c.if-rows-ne-ROWS.false)) a.tag a.bytes.now a.steps.now
-    (omega (arith, c.if-bytes-end.true, c.width-end.ensures)) c.code_of.result c.code_of.ensures
+    (omega (arith, c.if-bytes-end.true, c.width-end.ensures)) c.refused.result c.refused.ensures
 
 pub returns : goal.returns
 returns c =

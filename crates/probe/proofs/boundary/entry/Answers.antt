@@ -11,18 +11,18 @@ use Rattle.probe.proofs.Read.{entry_tag}
 use Rattle.probe.proofs.Moves.{entered_by_lem}
 use Rattle.probe.proofs.boundary.entry.Goals as goal
 
-pub returns-then-tag-eq1 : goal.returns-then-tag-eq1
-returns-then-tag-eq1 c =
+pub returns-then-tag-eq-ENTER_CSD : goal.returns-then-tag-eq-ENTER_CSD
+returns-then-tag-eq-ENTER_CSD c =
     let a = c.args in
     entered_by_lem a.directory (call_of a.tag a.operands.now) _ (ap (λ (y : Csd). enter (csd_row y)) c.decode_csd.ensures ∙ sym (csd_call a.tag a.operands.now (omega arith) c.requires.1)) c.enter_csd.result c.enter_csd.ensures
 
-pub returns-then-tag-eq2 : goal.returns-then-tag-eq2
-returns-then-tag-eq2 c =
+pub returns-then-tag-eq-ENTER_SECURITY : goal.returns-then-tag-eq-ENTER_SECURITY
+returns-then-tag-eq-ENTER_SECURITY c =
     let a = c.args in
     entered_by_lem a.directory (call_of a.tag a.operands.now) _ (ap (λ (y : Security). enter (security_row y)) c.decode_security.ensures ∙ sym (security_call a.tag a.operands.now (omega arith) c.requires.1)) c.enter_security.result c.enter_security.ensures
 
-pub returns-then-tag-eq3 : goal.returns-then-tag-eq3
-returns-then-tag-eq3 c =
+pub returns-then-tag-eq-ENTER_ACCOUNT : goal.returns-then-tag-eq-ENTER_ACCOUNT
+returns-then-tag-eq-ENTER_ACCOUNT c =
     let a = c.args in
     entered_by_lem a.directory (call_of a.tag a.operands.now) _ (ap enter c.decode_account.ensures ∙ sym (account_call a.tag a.operands.now (omega arith))) c.enter_account.result c.enter_account.ensures
 

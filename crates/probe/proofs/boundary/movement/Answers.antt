@@ -11,24 +11,24 @@ use Rattle.probe.proofs.Read.{move_tag}
 use Rattle.probe.proofs.Moves.{moved, paid}
 use Rattle.probe.proofs.boundary.movement.Goals as goal
 
-pub returns-then-tag-eq6 : goal.returns-then-tag-eq6
-returns-then-tag-eq6 c =
+pub returns-then-tag-eq-BRING_IN : goal.returns-then-tag-eq-BRING_IN
+returns-then-tag-eq-BRING_IN c =
     let a = c.args in
     let x = c.decode_move-x in
     moved a.directory a.positions.now a.cash.now (call_of a.tag a.operands.now) c.bring_in.result c.bring_in.new.positions incoming
     x.result.account x.result.security x.result.quantity x.result.day
     (ap (λ (y : Move). move incoming y.account y.security y.quantity y.day) x.ensures ∙ sym (bring_in_call a.tag a.operands.now (omega arith))) c.bring_in.ensures
 
-pub returns-then-tag-eq7 : goal.returns-then-tag-eq7
-returns-then-tag-eq7 c =
+pub returns-then-tag-eq-TAKE_OUT : goal.returns-then-tag-eq-TAKE_OUT
+returns-then-tag-eq-TAKE_OUT c =
     let a = c.args in
-    let x = c.decode_move-x-then-tag-eq7 in
+    let x = c.decode_move-x-then-tag-eq-TAKE_OUT in
     moved a.directory a.positions.now a.cash.now (call_of a.tag a.operands.now) c.take_out.result c.take_out.new.positions outgoing
     x.result.account x.result.security x.result.quantity x.result.day
     (ap (λ (y : Move). move outgoing y.account y.security y.quantity y.day) x.ensures ∙ sym (take_out_call a.tag a.operands.now (omega arith))) c.take_out.ensures
 
-pub returns-then-tag-eq8 : goal.returns-then-tag-eq8
-returns-then-tag-eq8 c =
+pub returns-then-tag-eq-PAY_IN : goal.returns-then-tag-eq-PAY_IN
+returns-then-tag-eq-PAY_IN c =
     let a = c.args in
     let x = c.decode_payment-x in
     paid a.directory a.positions.now a.cash.now (call_of a.tag a.operands.now) c.pay_in.result c.pay_in.new.cash incoming

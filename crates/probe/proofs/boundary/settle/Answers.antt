@@ -11,7 +11,7 @@ pub returns-then-bytes-end : goal.returns-then-bytes-end
 returns-then-bytes-end c =
     let a = c.args in
     settle_cut a.counts.now a.rows.now (omega (arith, c.if-counts-ne-COUNTS.false)) (omega (arith, c.if-rows-ne-ROWS.false)) a.tag a.bytes.now a.steps.now
-    (omega (arith, c.if-bytes-end.true, c.width-end.ensures)) c.code_of.result c.code_of.ensures a.positions.now a.cash.now
+    (omega (arith, c.if-bytes-end.true, c.width-end.ensures)) c.refused.result c.refused.ensures a.positions.now a.cash.now
 
 pub returns : goal.returns
 returns c =

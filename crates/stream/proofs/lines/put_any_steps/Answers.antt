@@ -1,5 +1,4 @@
 -- `stream::lines::put_any_steps` meets its contract: so far the lines of the first steps are appended. Assumes nothing.
-use borrow.Author.Rules.{rules}
 use mathlib.Core.Path.{refl, ◌∙◌}
 use native.Mathlib.Omega.{arith}
 use Rattle.rules.specs.Stream.{step_lines}
@@ -10,13 +9,12 @@ use Rattle.stream.proofs.lines.put_any_steps.Goals as goal
 
 pub loop-i-init : goal.loop-i-init
 unfolding step_lines steps_in
-loop-i-init c = (omega arith, refl, no_bytes _ _ _ (omega arith))
+loop-i-init c = (refl, no_bytes _ _ _ (omega arith))
 
 pub loop-i-preserved : goal.loop-i-preserved
 loop-i-preserved c =
     let l = c.loop-i in
     let put = c.put_step-end.ensures in (
-      search rules,
-      put.same ∙ l.invariant.1,
-      step_more c.args.steps.now l.i _ c.step_at.ensures l.invariant.2 put,
+      put.same ∙ l.invariant.0,
+      step_more c.args.steps.now l.i _ c.step_at.ensures l.invariant.1 put,
     )

@@ -1,6 +1,5 @@
 -- `stream::lines::put_any_steps` meets its contract: so far the lines of the first steps are appended. Assumes nothing.
 use mathlib.Core.Path.{◌≡◌}
-use Prim.Native.Nat.{◌-◌, ◌≤◌}
 use lib.ListN.{length}
 use Rattle.rules.specs.Stream.{step_lines}
 use Rattle.chain.specs.StepList.{steps_in}
@@ -9,7 +8,4 @@ use Rattle.stream.proofs.lines.put_any_steps.Given as goal
 
 abbrev pub invariant-loop-i : goal.invariant-loop-i
 invariant-loop-i l =
-    (l.i ≤ l.k) × (length l.out ≡ length l.initial.out) × Appended l.initial.out l.at l.out l.end (step_lines (steps_in l.steps l.i))
-
-abbrev pub decreases-loop-i : goal.decreases-loop-i
-decreases-loop-i l = l.k - l.i
+    (length l.out ≡ length l.initial.out) × Appended l.initial.out l.at l.out l.end (step_lines (steps_in l.steps l.i))

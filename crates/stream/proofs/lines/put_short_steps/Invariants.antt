@@ -9,7 +9,4 @@ use Rattle.stream.proofs.lines.put_short_steps.Given as goal
 
 abbrev pub invariant-loop-i : goal.invariant-loop-i
 invariant-loop-i l =
-    (l.i ≤ l.k) × (length l.out ≡ length l.initial.out) × Appended l.initial.out l.at l.out l.end (step_lines (steps_in l.steps l.i)) × (l.end + 20 * (l.k - l.i) ≤ length l.out)
-
-abbrev pub decreases-loop-i : goal.decreases-loop-i
-decreases-loop-i l = l.k - l.i
+    (length l.out ≡ length l.initial.out) × Appended l.initial.out l.at l.out l.end (step_lines (steps_in l.steps l.i)) × (l.end + 20 * (l.k - l.i) ≤ length l.out)

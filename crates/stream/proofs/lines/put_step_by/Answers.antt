@@ -29,30 +29,25 @@ returns-then-debited-ge-THOUSAND c =
     let put = c.put_step.ensures in
     (put, short c.args.step put (omega arith) (omega arith) (omega arith))
 
-pub returns-then-credited-ge-THOUSAND : goal.returns-then-credited-ge-THOUSAND
-returns-then-credited-ge-THOUSAND c =
-    let put = c.put_step-then-credited-ge-THOUSAND.ensures in
-    (put, short c.args.step put (omega arith) (omega arith) (omega arith))
-
 pub returns : goal.returns
 unfolding step_line
 returns c =
     let at = c.args.at in
     let step = c.args.step in
-    let x = c.size_at in
-    let y = c.size_at-2 in
-    let z = c.size_at-3 in
+    let x = c.size in
+    let y = c.size-2 in
+    let z = c.size-3 in
     let a = at + 2 + x.result in
     let b = a + y.result in
     let end = b + z.result in
     let low : at + 4 ≤ a = omega (arith, x.ensures.1.0) in
     let high : end ≤ at + 20 = omega (arith, x.ensures.1.1, y.ensures.1.1, z.ensures.1.1) in
-    let credited : Before _ end _ (decimal step.credited ++ (10 ∷ [])) = c.put_before.ensures 10 c.requires.2 in
-    let debited : Before _ b _ (decimal step.debited ++ (32 ∷ [])) = c.put_before-2.ensures 32 c.requires.1 in
-    let csd : Before _ a _ (decimal step.csd ++ (32 ∷ [])) = c.put_before-3.ensures 32 c.requires.1 in
+    let credited : Before _ end _ (decimal step.credited ++ (10 ∷ [])) = c.put_before.ensures in
+    let debited : Before _ b _ (decimal step.debited ++ (32 ∷ [])) = c.put_before-2.ensures in
+    let csd : Before _ a _ (decimal step.csd ++ (32 ∷ [])) = c.put_before-3.ensures in
     let last = ahead b (nothing c.args.out.now at end) credited (omega (arith, low)) (starts b _ _ _ z.ensures.0) in
     let two = ahead a last debited (omega (arith, low)) (starts a _ _ _ y.ensures.0) in
     let all = ahead (at + 2) two csd low (starts (at + 2) _ _ _ x.ensures.0) in
     let line : Appended _ _ _ end (step_line step) =
-    named (simp (append_assoc, append-nil)) (closed all (rw c.put_two.ensures.1 at c.put_two.ensures.0) (omega arith) (omega (arith, high, c.requires.0))) in
+    named (simp (append_assoc, append-nil)) (closed all (rw c.put_bytes.ensures.1 at c.put_bytes.ensures.0) (omega arith) (omega (arith, high, c.requires))) in
     (line, high)

@@ -1,12 +1,9 @@
 -- `stream::words::put_words` meets its contract: so far the words of the first numbers stand there. Assumes nothing.
 use mathlib.Core.Path.{◌≡◌}
-use Prim.Native.Nat.{◌*◌, ◌-◌, ◌≤◌}
+use Prim.Native.Nat.{◌*◌}
 use lib.ListN.{length, take}
 use Rattle.stream.specs.Words.{words_to}
 use Rattle.stream.proofs.words.put_words.Given as goal
 
 abbrev pub invariant-loop-n : goal.invariant-loop-n
-invariant-loop-n l = (l.n ≤ 1_000) × (1 ≤ l.n → length l.words ≡ 4_000) × (take (4 * l.n) l.words ≡ words_to l.last l.n)
-
-abbrev pub decreases-loop-n : goal.decreases-loop-n
-decreases-loop-n l = 1_000 - l.n
+invariant-loop-n l = (length l.words ≡ 4_000) × (take (4 * l.n) l.words ≡ words_to l.last l.n)

@@ -1,16 +1,24 @@
 -- `wire::commands::next_at` meets its contract: each answer by the tests that lead to it. Assumes nothing.
-use mathlib.Core.Path.{sym, ◌∙◌}
+use mathlib.Core.Path.{sym}
+use native.Mathlib.Omega.{arith}
 use Rattle.wire.proofs.Found.{finds_end, finds_unknown, finds_cut, finds_command}
 use Rattle.wire.proofs.commands.next_at.Goals as goal
 
-pub returns-then-input-at : goal.returns-then-input-at
-returns-then-input-at c = sym (finds_end _ _ c.if-input-at.true)
+pub returns-in_default : goal.returns-in_default
+returns-in_default c = sym (finds_end c.args.input.now c.args.at (omega (arith, c.in_default.ensures.lookup)))
 
-pub returns-in-NoCommand : goal.returns-in-NoCommand
-returns-in-NoCommand c = sym (finds_unknown _ _ c.if-input-at.false (sym c.width_of.ensures ∙ c.in-NoCommand.is))
+pub returns-in_default-try_from : goal.returns-in_default-try_from
+returns-in_default-try_from c =
+    let read = c.in-Some.ensures.lookup.3 in
+    sym (finds_unknown _ _ read.0 (rw (read.1 0) at c.in_default-try_from.ensures.1))
 
-pub returns-then-left-width : goal.returns-then-left-width
-returns-then-left-width c = sym (finds_cut _ _ c.if-input-at.false _ (sym c.width_of.ensures ∙ c.in-Bytes.is) c.if-left-width.true)
+pub returns-then-input-start : goal.returns-then-input-start
+returns-then-input-start c =
+    let read = c.in-Some.ensures.lookup.3 in
+    sym (finds_cut _ _ read.0 _ (rw (← c.in-Ok.ensures, read.1 0) at c.width-width.ensures) c.if-input-start.true)
 
-pub returns-else-left-width : goal.returns-else-left-width
-returns-else-left-width c = sym (finds_command _ _ c.if-input-at.false _ (sym c.width_of.ensures ∙ c.in-Bytes.is) c.if-left-width.false)
+pub returns : goal.returns
+returns c =
+    let read = c.in-Some.ensures.lookup.3 in
+    rw (← c.in-Ok.ensures, read.1 0)
+    (sym (finds_command _ _ read.0 _ (rw (← c.in-Ok.ensures, read.1 0) at c.width-width.ensures) c.if-input-start.false))

@@ -1,7 +1,0 @@
--- The count stands in the list.
-use Rattle.index.specs.Asked.{read, asked_by}
-use Rattle.index.proofs.lookups.pairs_full.Goals as goal
-
-pub returns : goal.returns
-unfolding asked_by read
-returns c = rw c.entry.ensures
