@@ -1,6 +1,6 @@
 -- A payment that 22 lets pass: neither of its two changes, one after the other, leaves 64 bits.
 use mathlib.Core.Path.{◌≡◌, refl}
-use mathlib.Core.Bool.{Bool, true, false, cond}
+use mathlib.Core.Bool.{false}
 use mathlib.Core.List.{List}
 use Prim.Native.Nat.{ℕ, zero, suc, ◌≤◌}
 use native.Mathlib.Omega.{arith}
@@ -15,10 +15,10 @@ use Rattle.rules.specs.Numbers.{number}
 use Rattle.rules.proofs.Numbered.{number_ne0}
 use Rattle.rules.specs.Tests.{first_of}
 use Rattle.rules.specs.Lookups.{Lookups}
-use Rattle.rules.specs.Booking.{Way, limit, balance, add_cents, plus_cents, cents, less_cents, cash_on, cash_beyond, payment, pay_conditions, payment_beyond}
+use Rattle.rules.specs.Booking.{Way, incoming, outgoing, limit, balance, add_cents, plus_cents, cents, less_cents, cash_on, cash_beyond, payment, pay_conditions, payment_beyond}
+use Rattle.rules.specs.Demands.{signed}
 use Rattle.rules.proofs.Basics.{or_none}
 use Rattle.holdings.proofs.Bounds.{within_one, within_plus, within_fits}
-use Rattle.booking.specs.Moves.{way_of}
 use Rattle.booking.specs.Payments.{pay_outcome}
 use Rattle.booking.proofs.Bounds.{within_two, within_pos, within_neg, within_added}
 
@@ -42,9 +42,9 @@ module _ (c : List ℤ) (payer payee m : ℕ) (some : eqb m 0 ≡ false) where
       (within_plus 3 1 (cash_on (add_cents c payer (less_cents (cents m))) payee) (pos m) between (within_pos m h))
 
 -- what is paid in is a change upwards, what is paid out one downwards
-pub payment_signed : (b : Bool) (m : ℕ) → ◌≡◌ {A = Cents} (record { 0 = cond b (pos m) (neg_ℤ (pos m)) }) (payment (way_of b) m)
-payment_signed true m = refl
-payment_signed false m = refl
+pub payment_signed : (w : Way) (m : ℕ) → ◌≡◌ {A = Cents} (record { 0 = signed w m }) (payment w m)
+payment_signed incoming m = refl
+payment_signed outgoing m = refl
 
 -- ---- a pay-in or pay-out by its number
 module _ (k : Lookups) (c : List ℤ) (w : Way) (a m : ℕ) where

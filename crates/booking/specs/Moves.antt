@@ -1,5 +1,5 @@
 -- Bring in and take out over look-ups: what they answer, and the positions that they leave. Assumes nothing.
-use Rattle.std.specs.Prelude.{ℕ, zero, suc, Bool, true, false, not, ◌||◌, List, [], ◌∷◌, ℤ, Some, None, Option as Answered}
+use Rattle.std.specs.Prelude.{ℕ, zero, suc, Bool, not, ◌||◌, List, [], ◌∷◌, ℤ, Some, None, Option as Answered}
 use Rattle.std.proofs.Math.Option.{Option, none, some}
 use Rattle.rules.specs.declared.Step.{Step}
 use Rattle.rules.specs.declared.answer.Answer.{Answer}
@@ -8,11 +8,13 @@ use Rattle.rules.specs.Tests.{Condition, ◌when◌, first_of}
 use Rattle.rules.specs.Lookups.{Lookups}
 use Rattle.rules.specs.Chain.{steps_of}
 use Rattle.rules.specs.Booking.{Way, incoming, outgoing, out_of_range, step_short, step_beyond, move_chain, move_conditions, booked}
+use Rattle.booking.specs.declared.way.Way.{Way as OneWay}
+use Rattle.booking.specs.declared.way.Way.TheVariants.{Incoming, Outgoing}
 
 -- into the desk's books, or out of them
-abbrev pub way_of : Bool → Way
-way_of true = incoming
-way_of false = outgoing
+abbrev pub way_of : OneWay → Way
+way_of Incoming = incoming
+way_of Outgoing = outgoing
 
 -- the account on the other side, if there is one, as the code answers it
 unfoldable pub contra_found : Option ℕ → Answered ℕ

@@ -6,7 +6,8 @@ ghost use Rattle.std.specs.Int.{w64};
 ghost use Rattle.std.proofs.Common.{SFits};
 ghost use Rattle.rules.specs.Booking.{limit, balance, plus_cents, add_cents, payment_beyond, paid};
 
-use crate::numbers::{add_at, signed};
+use crate::numbers::add_at;
+use crate::way::Way;
 use holdings::cash::Payment;
 use rules::Cents;
 
@@ -26,8 +27,8 @@ pub(crate) fn pay(cash: &mut [i64], payment: Payment)
     if payment.amount == 0 {
         return;
     }
-    let down = Cents(signed(payment.amount, false));
-    let up = Cents(signed(payment.amount, true));
+    let down = Cents(Way::Outgoing.signed(payment.amount));
+    let up = Cents(Way::Incoming.signed(payment.amount));
     add_cents(cash, payment.payer, down);
     add_cents(cash, payment.payee, up);
 }

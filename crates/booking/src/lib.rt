@@ -7,6 +7,7 @@ pub(crate) mod numbers; // numbers.rt: one number of a list, changed
 pub(crate) mod positions; // positions.rt: units of securities, moved
 pub(crate) mod cash; // cash.rt: cents, paid
 pub(crate) mod first_refusal; // first_refusal.rt: the first refusal that applies
+pub mod way; // way.rt: into the books, or out of them
 pub mod moves; // moves.rt: bring in and take out
 pub mod payments; // payments.rt: pay in and pay out
 pub mod settling; // settling.rt: settlement

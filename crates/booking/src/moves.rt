@@ -9,6 +9,7 @@ ghost use Rattle.booking.specs.Moves.{way_of, contra_found, operand_conditions, 
 
 use crate::first_refusal::{book_refusal, out_of_range};
 use crate::positions::move_units;
+use crate::way::Way;
 use holdings::judging::Lot;
 use index::links::{Leading, issuance_of, leading_at};
 use index::lookups::{home_of, is_account, is_external, is_kind, is_security, pair_of};
@@ -58,13 +59,12 @@ fn move_refusal(
 }
 
 // The step of a bring-in or take-out between the account and the other one.
-fn move_step(incoming: bool, csd: u8, account: u16, other: u16) -> Step
-    ensures { result ≡ move_step (way_of incoming) csd account other }
+fn move_step(way: Way, csd: u8, account: u16, other: u16) -> Step
+    ensures { result ≡ move_step (way_of way) csd account other }
 {
-    let (debited, credited) = if incoming {
-        (other, account)
-    } else {
-        (account, other)
+    let (debited, credited) = match way {
+        Way::Incoming => (other, account),
+        Way::Outgoing => (account, other),
     };
     Step {
         csd,
@@ -95,20 +95,20 @@ fn book_step(
 pub fn move_securities(
     index: &[u16; INDEX],
     positions: &mut [i64],
-    incoming: bool,
+    way: Way,
     account: u16,
     security: u8,
     quantity: u64,
     day: u16,
 ) -> Result<(), Refusal>
     ensures answer { accepted_by result
-        ≡ (move_outcome (asked_on index.now day) positions.old (way_of incoming) account security quantity).answer }
+        ≡ (move_outcome (asked_on index.now day) positions.old (way_of way) account security quantity).answer }
     ensures positions { positions.new
-        ≡ (move_outcome (asked_on index.now day) positions.old (way_of incoming) account security quantity).positions }
+        ≡ (move_outcome (asked_on index.now day) positions.old (way_of way) account security quantity).positions }
 {
     move_refusal(index, account, security, quantity)?;
     let csd = home_of(index, account);
     let other = contra_of(index, security, csd, account, day).ok_or(Refusal::NoContra)?;
-    let step = move_step(incoming, csd, account, other);
+    let step = move_step(way, csd, account, other);
     book_step(index, positions, Lot { security, quantity }, step)
 }

@@ -1,19 +1,7 @@
 // A change of one signed number of a list.
-ghost use Rattle.std.specs.Prelude.{◌≡◌, true, cond, ◌≤◌, ◌<◌, pos, neg_ℤ, ◌+ℤ◌, length, get_or, set};
+ghost use Rattle.std.specs.Prelude.{◌≡◌, true, ◌<◌, pos, ◌+ℤ◌, length, get_or, set};
 ghost use Rattle.std.specs.Int.{w64};
 ghost use Rattle.std.proofs.Common.{SFits};
-ghost use Rattle.rules.specs.Booking.{limit};
-
-// n as a change upwards or downwards.
-pub(crate) fn signed(n: u64, rises: bool) -> i64
-    requires { n ≤ limit }
-    ensures { result ≡ cond rises (pos n) (neg_ℤ (pos n)) }
-{
-    if rises {
-        return n as i64;
-    }
-    0 - (n as i64)
-}
 
 // z more at k; behind the end nothing changes. Where k is known to be within the list it is not tested.
 pub(crate) fn add_at<const WITHIN: bool>(list: &mut [i64], k: usize, z: i64)

@@ -7,7 +7,8 @@ ghost use Rattle.std.proofs.Common.{SFits};
 ghost use Rattle.rules.specs.Booking.{limit, position, add_units, plus_units, moved};
 ghost use Rattle.booking.specs.Room.{Room};
 
-use crate::numbers::{add_at, signed};
+use crate::numbers::add_at;
+use crate::way::Way;
 use holdings::judging::Lot;
 use holdings::positions::place;
 use rules::{Step, Units};
@@ -25,8 +26,8 @@ pub(crate) fn move_units(positions: &mut [i64], lot: Lot, step: Step)
     requires { (lot.quantity ≤ limit) × Room positions.old lot.security lot.quantity step }
     ensures { positions.new ≡ moved step lot.security lot.quantity positions.old }
 {
-    let down = Units(signed(lot.quantity, false));
-    let up = Units(signed(lot.quantity, true));
+    let down = Units(Way::Outgoing.signed(lot.quantity));
+    let up = Units(Way::Incoming.signed(lot.quantity));
     add_units(positions, lot.security, step.debited, down);
     add_units(positions, lot.security, step.credited, up);
 }

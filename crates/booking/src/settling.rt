@@ -12,7 +12,8 @@ ghost use Rattle.booking.specs.Settling.{Settles};
 
 use crate::cash::pay;
 use crate::first_refusal::book_refusal;
-use crate::numbers::{add_at, signed};
+use crate::numbers::add_at;
+use crate::way::Way;
 use chain::derivation::chain_of;
 use chain::step_list::STEP_NUMBERS;
 use halves::{InOrder, halves_refusal};
@@ -30,8 +31,8 @@ fn book_steps<const STANDING: bool>(positions: &mut [i64], transfer: Transfer)
         positions.new ≡ booked (steps_in x.steps.now x.count) x.lot.security x.lot.quantity positions.old }
 {
     let Transfer { lot, steps, count } = transfer;
-    let down = signed(lot.quantity, false);
-    let up = signed(lot.quantity, true);
+    let down = Way::Outgoing.signed(lot.quantity);
+    let up = Way::Incoming.signed(lot.quantity);
     for done in 0..count {
         let at = 3 * done;
         let from = place(lot.security, steps[at + 1]);

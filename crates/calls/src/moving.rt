@@ -9,6 +9,7 @@ ghost use Rattle.rules.specs.Outcomes.{movement_on, payment_on};
 use crate::admit;
 use booking::moves::move_securities;
 use booking::payments::move_cash;
+use booking::way::Way;
 use holdings::totals;
 use rules::{ACCOUNTS, Answer, Cents, Directory, POSITIONS, Refusal, Units};
 
@@ -16,20 +17,20 @@ use rules::{ACCOUNTS, Answer, Cents, Directory, POSITIONS, Refusal, Units};
 fn movement(
     directory: Directory,
     positions: &mut [i64],
-    incoming: bool,
+    way: Way,
     account: u16,
     security: u8,
     quantity: u64,
     day: u16,
 ) -> Result<(), Refusal>
-    ensures answer { accepted_by result ≡ (movement_on directory positions.old (way_of incoming) account security quantity day).answer }
-    ensures positions { positions.new ≡ (movement_on directory positions.old (way_of incoming) account security quantity day).store.positions }
+    ensures answer { accepted_by result ≡ (movement_on directory positions.old (way_of way) account security quantity day).answer }
+    ensures positions { positions.new ≡ (movement_on directory positions.old (way_of way) account security quantity day).store.positions }
 {
     let kept = admit(positions.len() != POSITIONS, directory)?;
     move_securities(
         &kept.numbers,
         positions,
-        incoming,
+        way,
         account,
         security,
         quantity,
@@ -49,7 +50,15 @@ pub fn bring_in(
     ensures { (result ≡ (movement_on directory positions.old incoming account security quantity day).answer)
         × (positions.new ≡ (movement_on directory positions.old incoming account security quantity day).store.positions) }
 {
-    Answer::from(movement(directory, positions, true, account, security, quantity, day))
+    Answer::from(movement(
+        directory,
+        positions,
+        Way::Incoming,
+        account,
+        security,
+        quantity,
+        day,
+    ))
 }
 
 // The reverse.
@@ -65,7 +74,13 @@ pub fn take_out(
         × (positions.new ≡ (movement_on directory positions.old outgoing account security quantity day).store.positions) }
 {
     Answer::from(movement(
-        directory, positions, false, account, security, quantity, day,
+        directory,
+        positions,
+        Way::Outgoing,
+        account,
+        security,
+        quantity,
+        day,
     ))
 }
 
@@ -73,15 +88,15 @@ pub fn take_out(
 fn payment(
     directory: Directory,
     cash: &mut [i64],
-    incoming: bool,
+    way: Way,
     account: u16,
     amount: u64,
 ) -> Result<(), Refusal>
-    ensures answer { accepted_by result ≡ (payment_on directory cash.old (way_of incoming) account amount).answer }
-    ensures cash { cash.new ≡ (payment_on directory cash.old (way_of incoming) account amount).store.cash }
+    ensures answer { accepted_by result ≡ (payment_on directory cash.old (way_of way) account amount).answer }
+    ensures cash { cash.new ≡ (payment_on directory cash.old (way_of way) account amount).store.cash }
 {
     let kept = admit(cash.len() != ACCOUNTS, directory)?;
-    move_cash(&kept.numbers, cash, incoming, account, amount)
+    move_cash(&kept.numbers, cash, way, account, amount)
 }
 
 // Adds to a participant account's cash.
@@ -89,7 +104,7 @@ pub fn pay_in(directory: Directory, cash: &mut [i64], account: u16, amount: u64)
     ensures { (result ≡ (payment_on directory cash.old incoming account amount).answer)
         × (cash.new ≡ (payment_on directory cash.old incoming account amount).store.cash) }
 {
-    Answer::from(payment(directory, cash, true, account, amount))
+    Answer::from(payment(directory, cash, Way::Incoming, account, amount))
 }
 
 // The reverse.
@@ -97,7 +112,7 @@ pub fn pay_out(directory: Directory, cash: &mut [i64], account: u16, amount: u64
     ensures { (result ≡ (payment_on directory cash.old outgoing account amount).answer)
         × (cash.new ≡ (payment_on directory cash.old outgoing account amount).store.cash) }
 {
-    Answer::from(payment(directory, cash, false, account, amount))
+    Answer::from(payment(directory, cash, Way::Outgoing, account, amount))
 }
 
 // The sum of participant positions in a security.

@@ -2,6 +2,6 @@
 #![tactic(auto)]
 
 pub mod step_list; // step_list.rt: the steps of a chain as numbers in a lent list
-pub mod climbed; // climbed.rt: one side climbed from its account
+mod climbed; // climbed.rt: one side climbed from its account
 pub mod steps; // steps.rt: the steps along a route
 pub mod derivation; // derivation.rt: the chain between two accounts, and the derivation for two halves

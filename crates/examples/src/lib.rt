@@ -9,7 +9,7 @@ mod printing; // printing.rt: answers and steps on standard output
 pub use directories::{wider, worked_rows};
 pub use instructions::half;
 pub use printing::{put_answer, put_step};
-pub use rows::{Row, with, with_all};
+pub use rows::{Row, link, with, with_all};
 
 // The day of the calls.
 pub const DAY: u16 = 0;

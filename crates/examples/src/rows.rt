@@ -86,7 +86,7 @@ impl Row {
 }
 
 // A link for the one security, on every day.
-fn link(kind: u8, csd: u8, technical: u8, flag: u8, account: u16) -> Row
+pub fn link(kind: u8, csd: u8, technical: u8, flag: u8, account: u16) -> Row
     ensures { row_of result ≡ link_row (link_by kind csd technical flag account) }
 {
     Row::Link(Link {

@@ -2,13 +2,13 @@
 use Rattle.std.specs.Prelude.{◌≡◌, ℕ, Bool, true, false, List, length, take, replicate}
 use Rattle.std.proofs.Math.Option.{some}
 use Rattle.rules.specs.declared.Answer.{Answer}
-use Rattle.rules.specs.Booking.{position_count, cash_count}
+use Rattle.rules.specs.Booking.{Way, incoming, outgoing, position_count, cash_count}
 use Rattle.rules.specs.Calls.{Halves, Store, zeros, Call, settle, derive, Outcome, core, count_of}
 use Rattle.rules.specs.Stream.{width_of, ordered_at, sided_at, ordered_day_at, sided_day_at, program_steps}
 use Rattle.refusals.specs.Kept.{Keeps, nothing_kept}
 use Rattle.chain.specs.StepList.{step_numbers, steps_in}
 use Rattle.wire.specs.declared.commands.Command.{Command}
-use Rattle.wire.specs.declared.commands.Command.TheVariants.{Settle, SettleSided, DeriveSided}
+use Rattle.wire.specs.declared.commands.Command.TheVariants.{BringIn, PayIn, Settle, SettleSided, DeriveSided}
 pub use Rattle.stream.specs.declared.commands.Held.{Held}
 
 -- nothing is held before the first command
@@ -35,6 +35,14 @@ Does c before a after = (st : Store) → Holds before st → Obeys (core c st) a
 -- the operands are as many as the command has
 abbrev pub Whole : ℕ → List ℕ → Type 0
 Whole tag operands = width_of tag ≡ some (length operands)
+
+-- ---- 06 to 09
+
+-- into the books, or out of them
+abbrev pub way_for : Command → Way
+way_for BringIn = incoming
+way_for PayIn = incoming
+way_for _ = outgoing
 
 -- ---- 0A to 0D
 

@@ -6,11 +6,12 @@ ghost use Rattle.rules.specs.Stream.{call_of, program_steps};
 ghost use Rattle.halves.specs.Halves.{in_order};
 ghost use Rattle.booking.specs.Moves.{way_of};
 ghost use Rattle.wire.specs.Commands.{byte_of};
-ghost use Rattle.stream.specs.Obeyed.{nothing_held, Does, Whole, halves_for, day_for, instruction_for};
+ghost use Rattle.stream.specs.Obeyed.{nothing_held, Does, Whole, way_for, halves_for, day_for, instruction_for};
 
 use booking::moves::move_securities;
 use booking::payments::move_cash;
 use booking::settling::settle;
+use booking::way::Way;
 use chain::derivation::derive;
 use chain::step_list::STEP_NUMBERS;
 use entries::entries::{Keep, enter};
@@ -31,6 +32,16 @@ pub(crate) struct Held {
     pub(crate) positions: [i64; POSITIONS],
     pub(crate) cash: [i64; ACCOUNTS],
     pub(crate) steps: [u16; STEP_NUMBERS],
+}
+
+// Into the books, or out of them, for 06 to 09.
+fn way_of(command: Command) -> Way
+    ensures { way_of result ≡ way_for command }
+{
+    match command {
+        Command::BringIn | Command::PayIn => Way::Incoming,
+        _ => Way::Outgoing,
+    }
 }
 
 // The halves of 0A to 0D: "delivering first", or with their sides.
@@ -76,13 +87,13 @@ impl Held {
     }
 
     // Securities brought in, or taken out.
-    fn move_units(&mut self, incoming: bool, asked: Move) -> Answer
-        ensures { Does (move (way_of incoming) asked.account asked.security asked.quantity asked.day) self.old result self.new }
+    fn move_units(&mut self, way: Way, asked: Move) -> Answer
+        ensures { Does (move (way_of way) asked.account asked.security asked.quantity asked.day) self.old result self.new }
     {
         Answer::from(move_securities(
             &self.kept.numbers,
             &mut self.positions,
-            incoming,
+            way,
             asked.account,
             asked.security,
             asked.quantity,
@@ -91,13 +102,13 @@ impl Held {
     }
 
     // Cash paid in, or paid out.
-    fn move_money(&mut self, incoming: bool, asked: Payment) -> Answer
-        ensures { Does (pay (way_of incoming) asked.account asked.amount) self.old result self.new }
+    fn move_money(&mut self, way: Way, asked: Payment) -> Answer
+        ensures { Does (pay (way_of way) asked.account asked.amount) self.old result self.new }
     {
         Answer::from(move_cash(
             &self.kept.numbers,
             &mut self.cash,
-            incoming,
+            way,
             asked.account,
             asked.amount,
         ))
@@ -146,10 +157,10 @@ impl Held {
             Command::EnterAccount => self.enter(decode_account(operands)),
             Command::EnterLink => self.enter(decode_link(operands)),
             Command::BringIn | Command::TakeOut => {
-                self.move_units(command == Command::BringIn, decode_move(operands))
+                self.move_units(way_of(command), decode_move(operands))
             }
             Command::PayIn | Command::PayOut => {
-                self.move_money(command == Command::PayIn, decode_payment(operands))
+                self.move_money(way_of(command), decode_payment(operands))
             }
             Command::Settle | Command::Derive | Command::SettleSided | Command::DeriveSided =>
                 self.instruct(command, operands),

@@ -25,12 +25,12 @@ pub struct Route {
 }
 
 impl Route {
-    // Two sides that meet at the last CSD of both.
-    pub fn meeting(delivering: Side, receiving: Side) -> Route
-        ensures { route_of (Ok result) ≡ sides Join.Meeting (named delivering) (named receiving) }
+    // Two sides that join so.
+    pub fn joined(join: Join, delivering: Side, receiving: Side) -> Route
+        ensures { route_of (Ok result) ≡ sides join (named delivering) (named receiving) }
     {
         Route {
-            join: Join::Meeting,
+            join,
             delivering,
             receiving,
         }
@@ -42,11 +42,7 @@ pub fn by_ends(delivering: &Walk, receiving: &Walk) -> Result<Route, Refusal>
     ensures { route_of result ≡ joined_by (judged delivering.now.end receiving.now.end) (named delivering.now.side) (named receiving.now.side) }
 {
     let join = judge(delivering.end, receiving.end)?;
-    Ok(Route {
-        join,
-        delivering: delivering.side,
-        receiving: receiving.side,
-    })
+    Ok(Route::joined(join, delivering.side, receiving.side))
 }
 
 // How many CSDs two sides have in common at their ends.
@@ -165,7 +161,7 @@ pub fn route_of(
     ensures { route_of result ≡ route (asked_on index.now day) security from to }
 {
     if from == to {
-        return Ok(Route::meeting(Side::alone(from), Side::alone(to)));
+        return Ok(Route::joined(Join::Meeting, Side::alone(from), Side::alone(to)));
     }
     let links = DayLinks {
         index,
@@ -177,7 +173,8 @@ pub fn route_of(
     let common = common_end(&delivering.side, &receiving.side);
     let shared = shared_csds(&delivering, &receiving, common);
     if 0 < shared {
-        return Ok(Route::meeting(
+        return Ok(Route::joined(
+            Join::Meeting,
             delivering.side.without_last(shared - 1),
             receiving.side.without_last(shared - 1),
         ));
@@ -187,11 +184,11 @@ pub fn route_of(
     }
     let towards = links.directed_from(to, from, &delivering);
     if has_reached(to, towards.end) {
-        return Ok(Route::meeting(towards.side, Side::alone(to)));
+        return Ok(Route::joined(Join::Meeting, towards.side, Side::alone(to)));
     }
     let back = links.directed_from(from, to, &receiving);
     if has_reached(from, back.end) {
-        return Ok(Route::meeting(Side::alone(from), back.side));
+        return Ok(Route::joined(Join::Meeting, Side::alone(from), back.side));
     }
     by_ends(&delivering, &receiving)
 }

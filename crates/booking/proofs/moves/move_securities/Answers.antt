@@ -14,7 +14,7 @@ pub returns-in_err-move_refusal : goal.returns-in_err-move_refusal
 returns-in_err-move_refusal c =
     let a = c.args in
     let p = err_from_is_err_and c.from_residual.result c.from_residual.ensures.1 in
-    let r = by_operands (asked_on a.index.now a.day) a.positions.now (way_of a.incoming) a.account a.security a.quantity
+    let r = by_operands (asked_on a.index.now a.day) a.positions.now (way_of a.way) a.account a.security a.quantity
     c.in_err-move_refusal.field-0.0 (c.in_err-move_refusal.ensures ∙ operands_on a.index.now a.day a.account a.security a.quantity) in
     rw (p.1, p.2) (record { answer = r.0; positions = r.1 })
 
@@ -26,7 +26,7 @@ returns-in_err-other c =
     let value = rw e.ok_part at e.value in
     let is : c.in_err-other.field-0.0 ≡ NoContra = cc in
     let p = err_from_is_err_and c.from_residual-in_err-other.result c.from_residual-in_err-other.ensures.1 in
-    let r = by_contra (asked_on a.index.now a.day) a.positions.now (way_of a.incoming) a.account a.security a.quantity
+    let r = by_contra (asked_on a.index.now a.day) a.positions.now (way_of a.way) a.account a.security a.quantity
     (c.in_ok-move_refusal.ensures ∙ operands_on a.index.now a.day a.account a.security a.quantity)
     home.result (home.ensures ∙ home_on a.index.now a.day a.account) (contra_missing _ (sym c.contra_of.ensures ∙ e.ok_part)) in
     rw (p.1, p.2, is) (record { answer = r.0; positions = r.1 })
@@ -35,7 +35,7 @@ pub returns : goal.returns
 returns c =
     let home = c.home_of-csd in
     let a = c.args in
-    let r = by_step (asked_on a.index.now a.day) a.positions.now (way_of a.incoming) a.account a.security a.quantity
+    let r = by_step (asked_on a.index.now a.day) a.positions.now (way_of a.way) a.account a.security a.quantity
     (c.in_ok-move_refusal.ensures ∙ operands_on a.index.now a.day a.account a.security a.quantity)
     home.result (home.ensures ∙ home_on a.index.now a.day a.account) _ (contra_at _ _ (sym c.contra_of.ensures ∙ c.in_ok-other.ensures.ok_part))
     c.move_step-step.result c.move_step-step.ensures c.book_step.result

@@ -10,7 +10,7 @@ use Rattle.walks.proofs.routes.route_of.Goals as goal
 pub returns-then-from-to : goal.returns-then-from-to
 returns-then-from-to c =
     let a = c.args in
-    c.meeting.ensures ∙ rw (c.alone.ensures, c.alone-then-from-to.ensures) (same_csd_lem (asked_on a.index.now a.day) a.security a.from a.to c.if-from-to.true)
+    c.joined.ensures ∙ rw (c.alone.ensures, c.alone-then-from-to.ensures) (same_csd_lem (asked_on a.index.now a.day) a.security a.from a.to c.if-from-to.true)
 
 pub returns-then-shared-gt0 : goal.returns-then-shared-gt0
 returns-then-shared-gt0 c =
@@ -18,7 +18,7 @@ returns-then-shared-gt0 c =
     let v = c.default_walk-receiving in
     let a = c.args in
     let meets = c.shared_csds-shared.ensures (asked_on a.index.now a.day) a.security a.from a.to w.ensures v.ensures in
-    c.meeting-then-shared-gt0.ensures ∙ rw (c.without_last.ensures, c.without_last-then-shared-gt0.ensures) (walks_meet (asked_on a.index.now a.day) a.security a.from a.to
+    c.joined-then-shared-gt0.ensures ∙ rw (c.without_last.ensures, c.without_last-then-shared-gt0.ensures) (walks_meet (asked_on a.index.now a.day) a.security a.from a.to
     c.if-from-to.false (walk_of w.result) (walk_of v.result) w.ensures v.ensures _ c.if-shared-gt0.true meets)
 
 pub returns-then-none_turns : goal.returns-then-none_turns
@@ -43,7 +43,7 @@ returns-then-has_reached c =
     let meets = c.shared_csds-shared.ensures (asked_on a.index.now a.day) a.security a.from a.to w.ensures v.ensures in
     let x = c.directed_from-towards in
     let apart = unmet c.shared_csds-shared.result (asked_on a.index.now a.day) (walk_of w.result) (walk_of v.result) c.if-shared-gt0.false meets in
-    c.meeting-then-has_reached.ensures ∙ rw c.alone-then-has_reached.ensures (reaches (asked_on a.index.now a.day) a.security a.from a.to
+    c.joined-then-has_reached.ensures ∙ rw c.alone-then-has_reached.ensures (reaches (asked_on a.index.now a.day) a.security a.from a.to
     c.if-from-to.false (walk_of w.result) (walk_of v.result) w.ensures v.ensures apart
     (walk_of x.result) x.ensures (sym c.has_reached.ensures ∙ c.if-has_reached.true))
 
@@ -56,7 +56,7 @@ returns-then-has_reached-2 c =
     let x = c.directed_from-towards in
     let y = c.directed_from-back in
     let apart = unmet c.shared_csds-shared.result (asked_on a.index.now a.day) (walk_of w.result) (walk_of v.result) c.if-shared-gt0.false meets in
-    c.meeting-then-has_reached-2.ensures ∙ rw c.alone-then-has_reached-2.ensures (reaches_back (asked_on a.index.now a.day) a.security a.from a.to
+    c.joined-then-has_reached-2.ensures ∙ rw c.alone-then-has_reached-2.ensures (reaches_back (asked_on a.index.now a.day) a.security a.from a.to
     c.if-from-to.false (walk_of w.result) (walk_of v.result) w.ensures v.ensures apart
     (walk_of x.result) x.ensures (sym c.has_reached.ensures ∙ c.if-has_reached.false)
     (walk_of y.result) y.ensures (sym c.has_reached-2.ensures ∙ c.if-has_reached-2.true))

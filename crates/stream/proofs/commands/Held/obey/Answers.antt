@@ -5,14 +5,11 @@ use mathlib.Core.List.{List}
 use Prim.Native.Nat.{ℕ}
 use Rattle.rules.specs.Calls.{move, pay}
 use Rattle.rules.specs.Stream.{call_of}
-use Rattle.booking.specs.Moves.{way_of}
-use Rattle.wire.specs.contracts.commands.Command.{the_type}
 use Rattle.wire.specs.declared.commands.Command.{Command}
 use Rattle.wire.specs.declared.commands.Command.TheVariants.{BringIn, TakeOut, PayIn, PayOut, Settle, SettleSided, Derive, DeriveSided}
 use Rattle.wire.specs.Commands.{byte_of}
 use Rattle.wire.specs.Operands.{move_in, payment_in}
-use Rattle.stream.specs.Obeyed.{instruction_for}
-use denote.Enum.Bare.{sameb}
+use Rattle.stream.specs.Obeyed.{way_for, instruction_for}
 use Rattle.wire.proofs.Decoded.{csd_call, security_call, account_call, link_call, pair_call}
 use Rattle.stream.proofs.commands.Held.obey.Goals as goal
 
@@ -33,24 +30,24 @@ returns-in-EnterPair c = rw c.in-EnterPair.is (λ whole. rw (pair_call 14 c.args
 
 -- 06 and 07, 08 and 09
 moved : (x : Command) (o : List ℕ) → (x ≡ BringIn) ⊎ (x ≡ TakeOut)
-    → call_of (byte_of x) o ≡ move (way_of (sameb the_type x BringIn)) (move_in o).account (move_in o).security (move_in o).quantity (move_in o).day
+    → call_of (byte_of x) o ≡ move (way_for x) (move_in o).account (move_in o).security (move_in o).quantity (move_in o).day
 unfolding call_of
 moved x o (inl e) = rw e
 moved x o (inr e) = rw e
 
 paid : (x : Command) (o : List ℕ) → (x ≡ PayIn) ⊎ (x ≡ PayOut)
-    → call_of (byte_of x) o ≡ pay (way_of (sameb the_type x PayIn)) (payment_in o).account (payment_in o).amount
+    → call_of (byte_of x) o ≡ pay (way_for x) (payment_in o).account (payment_in o).amount
 unfolding call_of
 paid x o (inl e) = rw e
 paid x o (inr e) = rw e
 
 pub returns-in-BringIn : goal.returns-in-BringIn
 returns-in-BringIn c = λ whole.
-    rw (moved c.args.command c.args.operands.now c.in-BringIn.is) (rw (c.eq.ensures, c.decode_move.ensures) at c.move_units.ensures)
+    rw (moved c.args.command c.args.operands.now c.in-BringIn.is) (rw (c.way_of.ensures, c.decode_move.ensures) at c.move_units.ensures)
 
 pub returns-in-PayIn : goal.returns-in-PayIn
 returns-in-PayIn c = λ whole.
-    rw (paid c.args.command c.args.operands.now c.in-PayIn.is) (rw (c.eq-in-PayIn.ensures, c.decode_payment.ensures) at c.move_money.ensures)
+    rw (paid c.args.command c.args.operands.now c.in-PayIn.is) (rw (c.way_of-in-PayIn.ensures, c.decode_payment.ensures) at c.move_money.ensures)
 
 -- 0A to 0D
 instructed : (x : Command) (o : List ℕ) → (x ≡ Settle) ⊎ (x ≡ Derive) ⊎ (x ≡ SettleSided) ⊎ (x ≡ DeriveSided) → call_of (byte_of x) o ≡ instruction_for x o
