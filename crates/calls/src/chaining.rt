@@ -13,6 +13,7 @@ use booking::settling::settle;
 use chain::derivation::derive;
 use chain::step_list::{STEP_NUMBERS, step_at};
 use halves::{InOrder, in_order};
+use refusals::Kept;
 use rules::{
     ACCOUNTS, Answer, Directory, Half, POSITIONS, Refusal, Reply, STEPS, SidedHalf, Step, Steps,
 };
@@ -70,7 +71,8 @@ fn derived(directory: Directory, lent: usize, halves: InOrder, day: u16) -> Resu
     requires { (hs : Halves) × (halves ≡ in_order hs) }
     ensures { (hs : Halves) → halves ≡ in_order hs → reply_by result ≡ reply_of (derivation_on directory (blanks lent) hs day) }
 {
-    let kept = admit(lent < STEPS, directory)?;
+    let mut kept = Kept::nothing();
+    admit(lent < STEPS, directory, &mut kept)?;
     let mut numbers = [0u16; STEP_NUMBERS];
     let count = derive(&kept.numbers, &mut numbers, halves, day)?;
     Ok(Reply {
@@ -97,7 +99,8 @@ fn settled(
         → cash.new ≡ (settlement_on directory positions.old cash.old (blanks lent) hs day).store.cash }
 {
     let misfit = (positions.len() != POSITIONS) | ((cash.len() != ACCOUNTS) | (lent < STEPS));
-    let kept = admit(misfit, directory)?;
+    let mut kept = Kept::nothing();
+    admit(misfit, directory, &mut kept)?;
     let mut numbers = [0u16; STEP_NUMBERS];
     let count = settle(&kept.numbers, positions, cash, &mut numbers, halves, day)?;
     Ok(Reply {

@@ -7,6 +7,7 @@ ghost use Rattle.calls.specs.Rooms.{HasRoom, with_row};
 
 use crate::admit;
 use entries::entries::Keep;
+use refusals::Kept;
 use rules::{Account, Answer, Csd, Directory, Entered, Link, Pair, Refusal, Security, Table};
 
 // A row behind those in use of a table that has room.
@@ -60,7 +61,8 @@ fn enter_into<R: Listed>(directory: &mut Directory, row: R) -> Result<(), Refusa
     ensures answer { accepted_by result ≡ (entered_on directory.old (R.as_row row)).answer }
     ensures left { directory.new ≡ (entered_on directory.old (R.as_row row)).directory }
 {
-    let kept = admit(false, *directory)?;
+    let mut kept = Kept::nothing();
+    admit(false, *directory, &mut kept)?;
     row.refusal(&kept)?;
     row.list_in(directory);
     Ok(())

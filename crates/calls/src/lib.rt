@@ -10,7 +10,7 @@ mod chaining; // chaining.rt: derivation and settlement, with their steps by val
 
 ghost use Rattle.std.specs.Prelude.{◌≡◌, IfOk};
 ghost use Rattle.rules.specs.Numbers.{refused_by};
-ghost use Rattle.refusals.specs.Kept.{Keeps};
+ghost use Rattle.refusals.specs.Kept.{nothing_kept, Keeps};
 ghost use Rattle.calls.specs.Early.{early};
 
 pub use blank::empty;
@@ -24,17 +24,18 @@ use reading::read;
 use refusals::Kept;
 use rules::{Directory, Refusal};
 
-// 3 where a lent list does not fit, else 4 where the directory is not sound; else what is kept of the directory.
-fn admit(misfit: bool, directory: Directory) -> Result<Kept, Refusal>
+// 3 where a lent list does not fit, else 4 where the directory is not sound; else what is kept of the directory stands in `kept`, which is lent since a
+// value of its size would be moved once more by each `?`.
+fn admit(misfit: bool, directory: Directory, kept: &mut Kept) -> Result<(), Refusal>
+    requires { kept.old ≡ nothing_kept }
     ensures number { refused_by result ≡ early misfit directory }
-    ensures keeps { IfOk result (λ kept. Keeps kept directory) }
+    ensures keeps { IfOk result (λ _. Keeps kept.new directory) }
 {
     if misfit {
         return Err(Refusal::LentList);
     }
-    let mut kept = Kept::nothing();
-    if !read(&directory, &mut kept) {
+    if !read(&directory, kept) {
         return Err(Refusal::Unsound);
     }
-    Ok(kept)
+    Ok(())
 }

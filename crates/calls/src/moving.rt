@@ -11,6 +11,7 @@ use booking::moves::move_securities;
 use booking::payments::move_cash;
 use booking::way::Way;
 use holdings::totals;
+use refusals::Kept;
 use rules::{ACCOUNTS, Answer, Cents, Directory, POSITIONS, Refusal, Units};
 
 // A bring-in or take-out, by the links of the day.
@@ -26,7 +27,8 @@ fn movement(
     ensures answer { accepted_by result ≡ (movement_on directory positions.old (way_of way) account security quantity day).answer }
     ensures positions { positions.new ≡ (movement_on directory positions.old (way_of way) account security quantity day).store.positions }
 {
-    let kept = admit(positions.len() != POSITIONS, directory)?;
+    let mut kept = Kept::nothing();
+    admit(positions.len() != POSITIONS, directory, &mut kept)?;
     move_securities(
         &kept.numbers,
         positions,
@@ -95,7 +97,8 @@ fn payment(
     ensures answer { accepted_by result ≡ (payment_on directory cash.old (way_of way) account amount).answer }
     ensures cash { cash.new ≡ (payment_on directory cash.old (way_of way) account amount).store.cash }
 {
-    let kept = admit(cash.len() != ACCOUNTS, directory)?;
+    let mut kept = Kept::nothing();
+    admit(cash.len() != ACCOUNTS, directory, &mut kept)?;
     move_cash(&kept.numbers, cash, way, account, amount)
 }
 
@@ -123,7 +126,8 @@ pub fn security_total(
 ) -> Result<Units, Refusal>
     ensures { units_found result ≡ desk_security_total directory positions.now security }
 {
-    let kept = admit(positions.len() != POSITIONS, directory)?;
+    let mut kept = Kept::nothing();
+    admit(positions.len() != POSITIONS, directory, &mut kept)?;
     totals::security_total(&kept.numbers, positions, security)
 }
 

@@ -16,7 +16,7 @@ returns-then-not-read-clause-number c =
       pairs = search (length_mapped, g.1.1.1.1.1.0);
       links = search (length_mapped, g.1.1.1.1.1.1.0);
     }) in
-    unsound c.args.misfit d whole c.if-misfit.false c.read.new.kept c.read.result (rw c.nothing-kept.ensures at c.read.ensures) c.if-not-read.true
+    unsound c.args.misfit d whole c.if-misfit.false c.read.new.kept c.read.result (rw c.requires at c.read.ensures) c.if-not-read.true
 
 pub returns-clause-number : goal.returns-clause-number
 returns-clause-number c =
@@ -30,7 +30,7 @@ returns-clause-number c =
       pairs = search (length_mapped, g.1.1.1.1.1.0);
       links = search (length_mapped, g.1.1.1.1.1.1.0);
     }) in
-    admitted c.args.misfit d whole c.if-misfit.false c.read.new.kept c.read.result (rw c.nothing-kept.ensures at c.read.ensures) c.if-not-read.false
+    admitted c.args.misfit d whole c.if-misfit.false c.read.new.kept c.read.result (rw c.requires at c.read.ensures) c.if-not-read.false
 
 pub returns-clause-keeps : goal.returns-clause-keeps
 returns-clause-keeps c =
@@ -44,4 +44,4 @@ returns-clause-keeps c =
       pairs = search (length_mapped, g.1.1.1.1.1.0);
       links = search (length_mapped, g.1.1.1.1.1.1.0);
     }) in
-    kept_so c.args.misfit d whole c.if-misfit.false c.read.new.kept c.read.result (rw c.nothing-kept.ensures at c.read.ensures) c.if-not-read.false
+    kept_so c.args.misfit d whole c.if-misfit.false c.read.new.kept c.read.result (rw c.requires at c.read.ensures) c.if-not-read.false

@@ -10,13 +10,13 @@ use Rattle.chain.proofs.Deriving.{handed_in_order, handed_derives}
 use Rattle.calls.proofs.Decided.{refusal_replied, derivation_refused, derivation_few, derivation_answered, derivation_passed}
 use Rattle.calls.proofs.chaining.derived.Goals as goal
 
-pub returns-in_err-kept : goal.returns-in_err-kept
-returns-in_err-kept c =
+pub returns-in_err-admit : goal.returns-in_err-admit
+returns-in_err-admit c =
     let a = c.args in
     λ hs e.
-    let n = c.in_err-kept.field-0.0 in
+    let n = c.in_err-admit.field-0.0 in
     let p = err_from_is_err_and c.from_residual.result c.from_residual.ensures.1 in
-    rw (p.1, p.2) (derivation_refused a.directory a.lent hs a.day (number n) nothing_kept (refuses n c.in_err-kept.ensures.number) (number_ne0 n))
+    rw (p.1, p.2) (derivation_refused a.directory a.lent hs a.day (number n) nothing_kept (refuses n c.in_err-admit.ensures.number) (number_ne0 n))
 
 pub returns-in_err-count : goal.returns-in_err-count
 returns-in_err-count c =
@@ -25,13 +25,13 @@ returns-in_err-count c =
     let p = err_from_is_err_and c.from_residual-in_err-count.result c.from_residual-in_err-count.ensures.1 in
     rw (p.1, p.2)
     (refusal_replied (derivation_on a.directory (blanks a.lent) hs a.day) (number c.in_err-count.field-0.0)
-    (derivation_answered a.directory a.lent hs a.day 0 c.in_ok-kept.kept (admits c.in_ok-kept.ensures.number c.in_ok-kept.ensures.keeps) refl _ _
+    (derivation_answered a.directory a.lent hs a.day 0 c.admit.new.kept (admits c.in_ok-admit.ensures.number c.in_ok-admit.ensures.keeps) refl _ _
     (handed_derives (handed_in_order hs a.halves e) _ _ _ _ c.in_err-count.ensures)))
 
 pub laid_out-requires : goal.laid_out-requires
 laid_out-requires c =
     let a = c.args in
-    derivation_few a.directory a.lent c.requires.0 a.day 0 c.in_ok-kept.kept (admits c.in_ok-kept.ensures.number c.in_ok-kept.ensures.keeps) refl _ _
+    derivation_few a.directory a.lent c.requires.0 a.day 0 c.admit.new.kept (admits c.in_ok-admit.ensures.number c.in_ok-admit.ensures.keeps) refl _ _
     (handed_derives (handed_in_order c.requires.0 a.halves c.requires.1) _ _ _ _ c.in_ok-count.ensures)
 
 pub returns : goal.returns
@@ -39,5 +39,5 @@ returns c =
     let a = c.args in
     λ hs e.
     rw c.laid_out.ensures
-    (derivation_passed a.directory a.lent hs a.day 0 c.in_ok-kept.kept (admits c.in_ok-kept.ensures.number c.in_ok-kept.ensures.keeps) refl _ _
+    (derivation_passed a.directory a.lent hs a.day 0 c.admit.new.kept (admits c.in_ok-admit.ensures.number c.in_ok-admit.ensures.keeps) refl _ _
     (handed_derives (handed_in_order hs a.halves e) _ _ _ _ c.in_ok-count.ensures))

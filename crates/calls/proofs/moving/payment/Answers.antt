@@ -9,25 +9,25 @@ use Rattle.booking.specs.Moves.{way_of}
 use Rattle.calls.proofs.Decided.{payment_refused, payment_passed}
 use Rattle.calls.proofs.moving.payment.Goals as goal
 
-pub returns-in_err-kept-clause-answer : goal.returns-in_err-kept-clause-answer
-returns-in_err-kept-clause-answer c =
+pub returns-in_err-admit-clause-answer : goal.returns-in_err-admit-clause-answer
+returns-in_err-admit-clause-answer c =
     let a = c.args in
-    let e = c.in_err-kept.field-0.0 in
+    let e = c.in_err-admit.field-0.0 in
     let p = err_from_is_err_and c.from_residual.result c.from_residual.ensures.1 in
-    rw (p.1, p.2) (payment_refused a.directory a.cash.now (way_of a.way) a.account a.amount (number e) nothing_kept (refuses e c.in_err-kept.ensures.number) (number_ne0 e)).0
+    rw (p.1, p.2) (payment_refused a.directory a.cash.now (way_of a.way) a.account a.amount (number e) nothing_kept (refuses e c.in_err-admit.ensures.number) (number_ne0 e)).0
 
-pub returns-in_err-kept-clause-cash : goal.returns-in_err-kept-clause-cash
-returns-in_err-kept-clause-cash c =
+pub returns-in_err-admit-clause-cash : goal.returns-in_err-admit-clause-cash
+returns-in_err-admit-clause-cash c =
     let a = c.args in
-    let e = c.in_err-kept.field-0.0 in
-    (payment_refused a.directory a.cash.now (way_of a.way) a.account a.amount (number e) nothing_kept (refuses e c.in_err-kept.ensures.number) (number_ne0 e)).1
+    let e = c.in_err-admit.field-0.0 in
+    (payment_refused a.directory a.cash.now (way_of a.way) a.account a.amount (number e) nothing_kept (refuses e c.in_err-admit.ensures.number) (number_ne0 e)).1
 
 pub returns-clause-answer : goal.returns-clause-answer
 returns-clause-answer c =
     let a = c.args in
-    (payment_passed a.directory a.cash.now (way_of a.way) a.account a.amount 0 c.in_ok-kept.kept (admits c.in_ok-kept.ensures.number c.in_ok-kept.ensures.keeps) refl _ _ c.move_cash.ensures.answer c.move_cash.ensures.cash).0
+    (payment_passed a.directory a.cash.now (way_of a.way) a.account a.amount 0 c.admit.new.kept (admits c.in_ok-admit.ensures.number c.in_ok-admit.ensures.keeps) refl _ _ c.move_cash.ensures.answer c.move_cash.ensures.cash).0
 
 pub returns-clause-cash : goal.returns-clause-cash
 returns-clause-cash c =
     let a = c.args in
-    (payment_passed a.directory a.cash.now (way_of a.way) a.account a.amount 0 c.in_ok-kept.kept (admits c.in_ok-kept.ensures.number c.in_ok-kept.ensures.keeps) refl _ _ c.move_cash.ensures.answer c.move_cash.ensures.cash).1
+    (payment_passed a.directory a.cash.now (way_of a.way) a.account a.amount 0 c.admit.new.kept (admits c.in_ok-admit.ensures.number c.in_ok-admit.ensures.keeps) refl _ _ c.move_cash.ensures.answer c.move_cash.ensures.cash).1
