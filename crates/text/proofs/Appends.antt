@@ -5,11 +5,8 @@ use native.Mathlib.Numerals.{add-one}
 use native.Mathlib.Decide.{dec_le}
 use native.Mathlib.Omega.{arith}
 use mathlib.Core.List.{List, [], ◌∷◌, ◌++◌, append_assoc, append-nil}
-use lib.ListN.{length, take, drop, set, length-append, length-take, length-drop, length-set}
-use borrow.Rule.Slice.PartMut.{put_mid}
-use Rattle.std.proofs.lemmas.Slice.{take-put_mid, drop-put_mid}
-use Rattle.std.proofs.lemmas.List.{take_min}
-use lib.Seq.{take-suc-set, take_all, take-length, take-append_seam, take-append-add, take_at, take-take, length-take-le, drop-drop, drop-set-lt}
+use lib.ListN.{length, take, drop, set, get_or, length-append, length-take, length-set}
+use lib.Seq.{take-suc, take-suc-set, take_all, take-length, take-append_seam, take_at, take-take, length-take-le, drop-drop, drop-set-lt}
 use Rattle.text.specs.Appended.{Appended, shown}
 
 -- ---- the buffer's end
@@ -71,37 +68,6 @@ one_byte out at b h =
       same = length-set out at b;
     }) (omega arith)
 
--- as much of a word as there is room for, put at the end of the text or of the buffer
-module _ (out word : List ℕ) (at from n : ℕ) (a : from ≡ min at (length out)) (b : n ≡ min (length word) (length out - from)) where
-  fitting_shown : shown out at word ≡ take from out ++ take n word
-  fitting_shown =
-      let m = length out - from in
-      let all : length out ≡ length (take from out) + m = omega (arith, length-take from out) in
-      let front : take at out ≡ take from out = rw a (sym (take_min at out)) in
-      let few : n ≡ min m (length word) = omega arith in
-      ap (λ (l : List ℕ). take (length out) (l ++ word)) front
-      ∙ (ap (λ (k : ℕ). take k (take from out ++ word)) all
-      ∙ (take-append-add (take from out) word m ∙ ap (λ (l : List ℕ). take from out ++ l) (sym (rw few (take_min m word)))))
-
-  pub fitting : (k : ℕ) → k ≡ n → Appended out at (put_mid from k out (take k word)) (from + n) word
-  fitting k e =
-      let within : from ≤ length out = omega arith in
-      let long : length (take n word) ≡ n = omega (arith, length-take n word) in
-      let front : take (from + n) (put_mid from n out (take n word)) ≡ shown out at word =
-      take-put_mid from n out (take n word) (from + n) (omega (arith, long)) within ∙ sym fitting_shown in
-      let rest : drop (from + n) (put_mid from n out (take n word)) ≡ drop (from + n) out =
-      drop-put_mid from n out (take n word) (from + n) (omega arith) within long in
-      let ends : from + n ≡ length (shown out at word) =
-      omega (arith, ap length fitting_shown, length-append (take from out) (take n word), length-take from out, long) in
-      rw e (record {
-        ends = ends;
-        front = front;
-        rest = rest;
-        same =
-            let whole = put_mid from n out (take n word) in
-            omega (arith, length-take (from + n) whole, ap length front, ends, ap length rest, length-drop (from + n) whole, length-drop (from + n) out);
-      })
-
 -- ---- one text after another
 
 -- what is still to come stands behind it: the law of a loop that appends one text after another
@@ -137,6 +103,13 @@ then {out} {out₁} {out₂} {at} {mid} {end} {x} {y} a b =
 -- the same text by another name
 pub named : {out out' : List ℕ} {at end : ℕ} {x y : List ℕ} → x ≡ y → Appended out at out' end x → Appended out at out' end y
 named e a = rw e at a
+
+-- one byte more of a word
+pub more : {out out₁ out₂ : List ℕ} {at mid end : ℕ} (word : List ℕ) (i : ℕ) → i < length word
+    → Appended out at out₁ mid (take i word) → Appended out₁ mid out₂ end (get_or word i 0 ∷ []) → Appended out at out₂ end (take (i + 1) word)
+more word i h a b =
+    let e : take i word ++ (get_or word i 0 ∷ []) ≡ take (i + 1) word = rw add-one (sym (take-suc word i 0 h)) in
+    named e (then a b)
 
 -- ---- bytes written one after another, where there is room
 

@@ -15,14 +15,16 @@ fn put_byte(out: &mut [u8], at: usize, byte: u8) -> usize
     at + 1
 }
 
-// As much of the word as there is room for. Not inlined: a stream writes words on its rare paths alone, and its loop is faster without their code.
+// As much of the word as there is room for, byte by byte: the exports would need `memmove` from outside for a `copy_from_slice`. Not inlined: a stream writes
+// words on its rare paths alone, and its loop is faster without their code.
 #[inline(never)]
 pub fn put_word(out: &mut [u8], at: usize, word: &[u8]) -> usize
     ensures { Appended out.old at out.new result word.now }
 {
-    let from = at.min(out.len());
-    let end = from + word.len().min(out.len() - from);
-    out[from..end].copy_from_slice(&word[..end - from]);
+    let mut end = at.min(out.len());
+    for byte in word {
+        end = put_byte(out, end, *byte);
+    }
     end
 }
 
