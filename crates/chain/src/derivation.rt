@@ -63,5 +63,6 @@ pub fn derive(
     halves_refusal(index, halves)?;
     let half = halves.delivering;
     let receiving = halves.receiving.account;
-    chain_of(index, half.security, half.account, receiving, steps, day)
+    let count = chain_of(index, half.security, half.account, receiving, steps, day)?;
+    Ok(count)
 }

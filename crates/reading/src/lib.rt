@@ -43,7 +43,8 @@ fn read_tables(directory: &Directory, kept: &mut Kept) -> Result<(), Refusal>
     read_rows(&directory.securities.rows, directory.securities.count, kept)?;
     read_rows(&directory.accounts.rows, directory.accounts.count, kept)?;
     read_rows(&directory.pairs.rows, directory.pairs.count, kept)?;
-    read_rows(&directory.links.rows, directory.links.count, kept)
+    let links = read_rows(&directory.links.rows, directory.links.count, kept);
+    links
 }
 
 // The whole directory. Read into what is kept of the empty one, it is sound exactly if the answer is true, and what is kept is then its own (specs/Read,

@@ -24,4 +24,4 @@ returns-in_err-read_rows-4 c =
     (no_table _ _ (next_table _ _ (next_table _ _ (next_table _ _ (all_left _ _) c.in_ok-read_rows.ensures refl) c.in_ok-read_rows-2.ensures refl) c.in_ok-read_rows-3.ensures refl) c.in_err-read_rows-4.ensures refl)
 
 pub returns : goal.returns
-returns c = last_table (next_table _ _ (next_table _ _ (next_table _ _ (next_table _ _ (all_left _ _) c.in_ok-read_rows.ensures refl) c.in_ok-read_rows-2.ensures refl) c.in_ok-read_rows-3.ensures refl) c.in_ok-read_rows-4.ensures refl) c.read_rows-5.ensures
+returns c = last_table (next_table _ _ (next_table _ _ (next_table _ _ (next_table _ _ (all_left _ _) c.in_ok-read_rows.ensures refl) c.in_ok-read_rows-2.ensures refl) c.in_ok-read_rows-3.ensures refl) c.in_ok-read_rows-4.ensures refl) c.read_rows-links.ensures

@@ -22,9 +22,18 @@ returns-in_err-halves_refusal c =
     rw (p.1, p.2)
     (derives_halves a.steps.now (asked_on a.index.now a.day) h.delivering h.receiving h.unknown h.same c.if-steps-ne-STEP_NUMBERS.false _ refused (number_ne0 c.in_err-halves_refusal.field-0.0))
 
+pub returns-in_err-count : goal.returns-in_err-count
+returns-in_err-count c =
+    let a = c.args in
+    let h = a.halves in
+    let passed = sym (c.in_ok-halves_refusal.ensures ∙ halves_on a.index.now a.day h.delivering h.receiving h.unknown h.same) in
+    let p = err_from_is_err_and c.from_residual-in_err-count.result c.from_residual-in_err-count.ensures.1 in
+    rw (p.1, p.2)
+    (derives_found a.steps.now (asked_on a.index.now a.day) h.delivering h.receiving h.unknown h.same c.if-steps-ne-STEP_NUMBERS.false passed _ _ c.in_err-count.ensures)
+
 pub returns : goal.returns
 returns c =
     let a = c.args in
     let h = a.halves in
     let passed = sym (c.in_ok-halves_refusal.ensures ∙ halves_on a.index.now a.day h.delivering h.receiving h.unknown h.same) in
-    derives_found a.steps.now (asked_on a.index.now a.day) h.delivering h.receiving h.unknown h.same c.if-steps-ne-STEP_NUMBERS.false passed c.chain_of.new.steps c.chain_of.result c.chain_of.ensures
+    derives_found a.steps.now (asked_on a.index.now a.day) h.delivering h.receiving h.unknown h.same c.if-steps-ne-STEP_NUMBERS.false passed _ _ c.in_ok-count.ensures
