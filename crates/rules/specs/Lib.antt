@@ -17,4 +17,4 @@ pub mod Examples
 pub mod Requests
 pub mod Outcomes
 pub mod Logs
-pub mod Printed
+pub mod Display

@@ -1,7 +1,7 @@
 // What a call answers, and how it is printed.
 ghost use Rattle.std.specs.Prelude.{◌≡◌, Some};
 ghost use Rattle.rules.specs.Numbers.{accepted_by, booked_by, chained_by};
-ghost use Rattle.rules.specs.Printed.{printed};
+ghost use Rattle.rules.specs.Display.{displayed};
 
 use crate::refusal::Refusal;
 use std::fmt;
@@ -51,7 +51,7 @@ impl From<Result<(), Refusal>> for Answer {
 
 // The program's words.
 impl fmt::Display for Answer {
-    ghost output = { λ answer. Some (printed answer) };
+    ghost output = { λ answer. Some (displayed answer) };
 
     fn fmt<W: fmt::Write>(&self, f: &mut fmt::Formatter<W>) -> fmt::Result {
         match self {

@@ -6,8 +6,8 @@ use Rattle.rules.specs.declared.answer.Answer.TheVariants.{Accepted, Booked, Cha
 use Rattle.rules.specs.Stream.{bytes}
 
 -- the program's words (`Stream: answer_text`), with std's text of a number
-abbrev pub printed : Answer → List ℕ
-printed Accepted = bytes "ok"
-printed (Booked k) = bytes "booked " ++ decimal k
-printed (Chained k) = bytes "chain " ++ decimal k
-printed (Refused n) = bytes "no " ++ decimal n
+abbrev pub displayed : Answer → List ℕ
+displayed Accepted = bytes "ok"
+displayed (Booked k) = bytes "booked " ++ decimal k
+displayed (Chained k) = bytes "chain " ++ decimal k
+displayed (Refused n) = bytes "no " ++ decimal n
